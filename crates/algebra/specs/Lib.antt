@@ -1,0 +1,13 @@
+-- definitions
+pub mod Sum
+pub mod Congruence
+pub mod Residue
+pub mod Places
+-- laws
+pub mod SumLaws
+pub mod PowerLaws
+pub mod CongruenceLaws
+pub mod Integer
+pub mod SizeLaws
+pub mod ResidueLaws
+pub mod PlacesLaws

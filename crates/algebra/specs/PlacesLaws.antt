@@ -1,0 +1,117 @@
+-- Laws of `table` and of `Written`: no store, one store, one more place of a run, two writes in a row, a part that was lent.
+use mathlib.Core.Path.{_≡_, refl, sym, ap, _∙_}
+use mathlib.Core.Logic.{_⊎_, inl, inr, ⊎-elim}
+use mathlib.Core.List.{List, [], _∷_, _++_}
+use Prim.Native.Nat.{ℕ, zero, suc, _+_, _-_, _<_, _≤_}
+use native.Mathlib.Decide.{ℕ-discrete, decLt}
+use native.Mathlib.Omega.{arith}
+use lib.ListN.{length, getD, set, length-set, length-append, take, drop, length-drop, List·getD-append}
+use lib.Seq.{ext-getD, getD-set-same, getD-set-other, length-take-le, getD-append-add, getD-take, getD-drop}
+use borrow.Rule.Slice.PartMut.{midOf, putMid, same-len-mid}
+use Rattle.algebra.specs.Places.{table, Written, Run}
+
+module _ {A : Type 0} where
+  pub length-table : (n : ℕ) (f : ℕ → A) → length (table n f) ≡ n
+  unfolding table
+  length-table zero f = refl
+  length-table (suc n) f = length-append (table n f) (f n ∷ []) ∙ omega (arith, length-table n f)
+
+  pub getD-table : (d : A) (n : ℕ) (f : ℕ → A) (i : ℕ) → i < n → getD (table n f) i d ≡ f i
+  unfolding table
+  getD-table d zero f i l = absurd (omega arith)
+  getD-table d (suc n) f i l = go (ℕ-discrete i n) (λ k. getD-table d n f i k)
+    where
+      go : Dec (i ≡ n) → (i < n → getD (table n f) i d ≡ f i) → getD (table n f ++ (f n ∷ [])) i d ≡ f i
+      go (yes e) r =
+          ap (λ k. getD (table n f ++ (f n ∷ [])) k d) (omega (arith, length-table n f))
+          ∙ getD-append-add (table n f) (f n ∷ []) 0 d ∙ ap f (sym e)
+      go (no h) r = List·getD-append (table n f) (f n ∷ []) d i (omega (arith, length-table n f)) ∙ r (omega arith)
+
+  -- a list is known by its length and its places
+  pub table-of : (d : A) (n : ℕ) (f : ℕ → A) (xs : List A) → length xs ≡ n → ((i : ℕ) → i < n → getD xs i d ≡ f i) → xs ≡ table n f
+  table-of d n f xs e h =
+      ext-getD d xs (table n f) (e ∙ sym (length-table n f)) (λ i l. h i (omega arith) ∙ sym (getD-table d n f i (omega arith)))
+
+module _ {A : Type 0} {d : A} where
+  -- no place is written
+  pub written-nothing : {P : ℕ → Type 0} {v : ℕ → A} {xs : List A} → ((p : ℕ) → P p → ⊥) → Written d P v xs xs
+  written-nothing none = record { size = refl; here = λ p l h. absurd (none p h); kept = λ p h. refl }
+
+  -- one store
+  pub written-one : {v : ℕ → A} {xs : List A} (i : ℕ) (x : A) → i < length xs → x ≡ v i → Written d (λ p. p ≡ i) v xs (set xs i x)
+  written-one {v} {xs} i x l e = record {
+    size = length-set xs i x;
+    here = λ p lp h. ap (λ (k : ℕ). getD (set xs i x) k d) h ∙ getD-set-same xs i x d l ∙ e ∙ ap v (sym h);
+    kept = λ p out. getD-set-other xs i p x d out;
+  }
+
+  -- the same places and values by other names; the old name needs to follow only within the list
+  pub written-as : {P Q : ℕ → Type 0} {u v : ℕ → A} {xs ys : List A} → Written d P u xs ys
+      → ((p : ℕ) → p < length xs → Q p → P p) → ((p : ℕ) → P p → Q p) → ((p : ℕ) → p < length xs → Q p → u p ≡ v p) → Written d Q v xs ys
+  written-as w to back same = record {
+    size = w .size;
+    here = λ p l h. w .here p l (to p l h) ∙ same p l h;
+    kept = λ p out. w .kept p (λ h. out (back p h));
+  }
+
+  -- two writes in a row; the second one's places win
+  pub written-again : {P Q R : ℕ → Type 0} {v : ℕ → A} {xs ys zs : List A} → Written d P v xs ys → Written d Q v ys zs
+      → ((p : ℕ) → p < length xs → R p → (P p × (Q p → ⊥)) ⊎ Q p) → ((p : ℕ) → P p → R p) → ((p : ℕ) → Q p → R p) → Written d R v xs zs
+  written-again a b to left right = record {
+    size = b .size ∙ a .size;
+    here = λ p l h. ⊎-elim (λ w. b .kept p (w .1) ∙ a .here p l (w .0)) (λ w. b .here p (omega (arith, a .size)) w) (to p l h);
+    kept = λ p out. b .kept p (λ h. out (right p h)) ∙ a .kept p (λ h. out (left p h));
+  }
+
+  -- a run, one place longer
+  pub written-longer : {v : ℕ → A} {xs ys : List A} (at i : ℕ) (x : A) → at + i < length xs → Written d (Run at i) v xs ys → x ≡ v (at + i)
+      → Written d (Run at (i + 1)) v xs (set ys (at + i) x)
+  written-longer at i x l w e =
+      written-again w (written-one (at + i) x (omega (arith, w .size)) e) (λ p l h. to p h) (λ p h. (h .0, omega arith)) (λ p h. (omega arith, omega arith))
+    where
+      to : (p : ℕ) → Run at (i + 1) p → (Run at i p × (p ≡ at + i → ⊥)) ⊎ (p ≡ at + i)
+      to p h = go (ℕ-discrete p (at + i))
+        where
+          go : Dec (p ≡ at + i) → (Run at i p × (p ≡ at + i → ⊥)) ⊎ (p ≡ at + i)
+          go (yes e) = inr e
+          go (no n) = inl ((h .0, omega arith), n)
+
+  -- a part of the list that was lent and came back
+  pub written-part : {P : ℕ → Type 0} {v : ℕ → A} {xs ys : List A} (a k : ℕ) → a + k ≤ length xs → Written d P v (midOf a k xs) ys
+      → Written d (λ p. (Run a k p) × P (p - a)) (λ p. v (p - a)) xs (putMid a k xs ys)
+  written-part {P} {v} {xs} {ys} a k le w = record {
+    size = same-len-mid a k xs ys (w .size);
+    here = λ p l h. inner p (h .0) ∙ w .here (p - a) (omega (arith, part)) (h .1);
+    kept = λ p out. go p out (decLt p a) (decLt p (a + k));
+  }
+    where
+      part : length (midOf a k xs) ≡ k
+      part = length-take-le k (drop a xs) (omega (arith, length-drop a xs))
+
+      front : length (take a xs) ≡ a
+      front = length-take-le a xs (omega arith)
+
+      len : length ys ≡ k
+      len = w .size ∙ part
+
+      inner : (p : ℕ) → Run a k p → getD (putMid a k xs ys) p d ≡ getD ys (p - a) d
+      inner p h =
+          let e : p ≡ length (take a xs) + (p - a) = omega (arith, front) in
+          ap (λ (i : ℕ). getD (putMid a k xs ys) i d) e
+          ∙ getD-append-add (take a xs) (ys ++ drop k (drop a xs)) (p - a) d
+          ∙ List·getD-append ys (drop k (drop a xs)) d (p - a) (omega (arith, len))
+
+      go : (p : ℕ) → ((Run a k p) × P (p - a) → ⊥) → Dec (p < a) → Dec (p < a + k) → getD (putMid a k xs ys) p d ≡ getD xs p d
+      go p out (yes h) _ = List·getD-append (take a xs) (ys ++ drop k (drop a xs)) d p (omega (arith, front)) ∙ getD-take a xs p d h
+      go p out (no h) (yes l) =
+          let e : a + (p - a) ≡ p = omega arith in
+          inner p (omega arith, l) ∙ w .kept (p - a) (λ x. out ((omega arith, l), x))
+          ∙ getD-take k (drop a xs) (p - a) d (omega arith) ∙ getD-drop a xs (p - a) d ∙ ap (λ (i : ℕ). getD xs i d) e
+      go p out (no h) (no l) =
+          let s : ℕ = p - (a + k) in
+          let e : p ≡ length (take a xs) + (length ys + s) = omega (arith, front, len) in
+          let b : a + (k + s) ≡ p = omega arith in
+          ap (λ (i : ℕ). getD (putMid a k xs ys) i d) e
+          ∙ getD-append-add (take a xs) (ys ++ drop k (drop a xs)) (length ys + s) d
+          ∙ getD-append-add ys (drop k (drop a xs)) s d
+          ∙ getD-drop k (drop a xs) s d ∙ getD-drop a xs (k + s) d ∙ ap (λ (i : ℕ). getD xs i d) b

@@ -1,0 +1,68 @@
+-- The two passes over a tile: what they make together, the sizes of each, and the bound across a transposition.
+use mathlib.Core.Path.{_≡_, refl, sym, ap, _∙_}
+use mathlib.Core.List.{List}
+use Prim.Native.Nat.{ℕ, _+_, _*_, _%_, _^_, _<_, _≤_}
+use native.Mathlib.Nat.{one-mul, mul-one, mod-eq-of-lt, mul-le-mul-left}
+use native.Mathlib.Omega.{arith}
+use lib.ListN.{length, getD}
+use lib.Pow.{pow-pos}
+use Rattle.algebra.specs.Congruence.{Cong}
+use Rattle.algebra.specs.CongruenceLaws.{c-eq, _⨟_, c-via}
+use Rattle.fermat.specs.Transform.{powerSum, powerSum2}
+use Rattle.fermat.specs.Order.{reversed, across, Permuted}
+use Rattle.fermat.specs.Butterfly.{Bound, AtMost}
+use Rattle.fermat.specs.Halving.{word, Forward, Inverse, Grid, Filled}
+use Rattle.fermat.specs.Tile.{TileForward, TileInverse, Square}
+use Rattle.fermat.specs.TransformLaws.{c-power-sum, power-sum-swap}
+use Rattle.fermat.specs.OrderLaws.{reversed-lt, across-lt, transposed, permuted-most}
+use Rattle.fermat.proofs.Words.{bound-times}
+
+module _ (m w l n : ℕ) (xs ys ts zs : List ℕ) (side : n ≡ 2 ^ l) (size : length ys ≡ n * n) (turned : Permuted (across n) ys ts) where
+  pub tile-forward : Forward m w l n xs ys → Forward m w l n ts zs → TileForward m w l n xs zs
+  unfolding powerSum2
+  tile-forward columns rows k i lk li =
+      let column : reversed l k < n = omega (arith, reversed-lt l k lk) in
+      rows i (reversed l k) li column
+      ⨟ c-via refl
+      (c-power-sum (2 ^ l) w (λ j. word n j (reversed l k) ts) (λ j. powerSum (2 ^ l) w (λ r. word n r j xs) k) i
+      (λ j lj. let lj' : j < n = omega arith in c-eq (transposed ys ts turned size j (reversed l k) lj' column) ⨟ columns k j lk lj'))
+      (power-sum-swap (2 ^ l) w w (λ r j. word n r j xs) k i)
+
+  pub tile-inverse : Inverse m w l n xs ys → Inverse m w l n ts zs → TileInverse m w l n xs zs
+  unfolding powerSum2
+  tile-inverse columns rows r j lr lj =
+      let column : j < n = omega arith in
+      rows r j lr column
+      ⨟ c-power-sum (2 ^ l) w (λ k. word n (reversed l k) j ts) (λ k. powerSum (2 ^ l) w (λ i. word n (reversed l i) (reversed l k) xs) j) r
+      (λ k lk. let row : reversed l k < n = omega (arith, reversed-lt l k lk) in
+      c-eq (transposed ys ts turned size (reversed l k) j row column) ⨟ columns j (reversed l k) lj row)
+
+-- the bound across a transposition
+pub transposed-most : (n c : ℕ) (ys ts : List ℕ) → length ys ≡ n * n → length ts ≡ length ys → Permuted (across n) ys ts → AtMost c ys → AtMost c ts
+transposed-most n c ys ts size same turned most = permuted-most (across n) ys ts c size (same ∙ size) (across-lt n) turned most
+
+-- all rows are filled
+pub all-filled : (n : ℕ) (xs : List ℕ) → 0 < n → length xs ≡ n * n → Filled n n xs
+all-filled n xs some size = record { some = some; empty = λ i lo hi. absurd (omega arith) }
+
+-- the numbers of the two passes
+pub record Passes (s n l b c : ℕ) : Type 0 where
+  pub some : 0 < n
+  pub first : Grid s n l 1 b c
+  pub shl : (c * 2 ^ l) % 2 ^ 64 ≡ c * 2 ^ l
+  pub bound : Bound b (c * 2 ^ l)
+  pub second : Grid s n l 1 b (c * 2 ^ l)
+
+pub passes : {s n l b c : ℕ} → Bound b c → Square s n l b c → Passes s n l b c
+passes {s} {n} {l} {b} {c} bound square =
+    let le : c * 2 ^ l * 1 ≤ c * 2 ^ l * 2 ^ l = mul-le-mul-left (c * 2 ^ l) (pow-pos l) in
+    let fits : c * 2 ^ l < 9223372036854775808 = omega (arith, mul-one (c * 2 ^ l), square .room) in
+    let whole : s ≡ 2 ^ l * n = square .whole ∙ ap (λ (i : ℕ). i * n) (square .side) in
+    let period : 1 * 2 ^ l ≡ 2 * b = one-mul (2 ^ l) ∙ sym (square .side) ∙ square .period in
+    record {
+      some = omega (arith, square .side, pow-pos l);
+      first = record { whole = whole; levels = square .levels; period = period; room = fits };
+      shl = mod-eq-of-lt (omega arith);
+      bound = bound-times bound (2 ^ l) (pow-pos l) fits;
+      second = record { whole = whole; levels = square .levels; period = period; room = square .room };
+    }

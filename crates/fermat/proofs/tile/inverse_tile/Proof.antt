@@ -1,0 +1,69 @@
+-- Two passes of `inverse` over the columns and the rows. Tiles has the law that joins them.
+use mathlib.Core.Path.{_≡_, sym, _∙_}
+use mathlib.Core.List.{List}
+use Prim.Native.Nat.{ℕ, _+_, _-_, _*_, _^_}
+use native.Mathlib.Omega.{arith}
+use borrow.Author.Needs.{needs}
+use denote.Ref.{now}
+use lib.ListN.{length}
+use Rattle.algebra.specs.PowerLaws.{pow-one}
+use Rattle.fermat.proofs.Tiles.{tile-inverse, transposed-most, passes}
+use Rattle.fermat.proofs.tile.inverse_tile.Statement.{statement}
+use Rattle.fermat.proofs.tile.inverse_tile.Tie as tie
+
+inverse-requires : tie.Need-inverse-requires
+inverse-requires c κs =
+    let s = c .before .before in
+    let p = passes (s .pre .0) (s .pre .1 .0) in
+    (s .pre .0, (p .first, s .pre .1 .1))
+
+transpose-requires : tie.Need-transpose-requires
+transpose-requires c κs = search needs
+
+shl-inverse : tie.Need-shl-inverse
+shl-inverse c = search needs
+
+-- before the second pass: the lengths after the first one and after the transposition
+module _ (c : tie.After-inverse-arg2) where
+  abbrev start : tie.Start
+  start = c .before .before .before .before .before .before .before .before .before .before
+
+  abbrev ys : List ℕ
+  ys = c .before .before .before .before .before .before .before .inverse .last .0
+
+  abbrev ts : List ℕ
+  ts = c .before .before .before .transpose .last .0
+
+  columns-length : length ys ≡ start .args .n * start .args .n
+  columns-length = c .before .before .before .before .before .before .before .inverse .kept .0 ∙ start .pre .1 .0 .whole
+
+  rows-length : length ts ≡ length ys
+  rows-length = c .before .before .before .transpose .kept .0
+
+inverse-requires-2 : tie.Need-inverse-requires-2
+inverse-requires-2 c κs =
+    let s = start c in
+    let a = s .args in
+    let p = passes (s .pre .0) (s .pre .1 .0) in
+    let whole : length (ts c) ≡ length (now (a .words)) = rows-length c ∙ columns-length c ∙ sym (s .pre .1 .0 .whole) in
+    let most = transposed-most (a .n) (a .bound * 2 ^ a .levels) (ys c) (ts c) (columns-length c) (rows-length c)
+    (c .before .before .before .transpose .ensures) (c .before .before .before .before .before .before .before .inverse .ensures .1) in
+    rw (p .shl) (p .bound, (rw whole (p .second), most))
+
+same-length : tie.Need-same-length
+same-length c = search needs
+
+returns : tie.Need-returns
+returns c =
+    let b = c .before .before .before in
+    let s = start b in
+    let a = s .args in
+    let p = passes (s .pre .0) (s .pre .1 .0) in
+    let one : (2 ^ (a .bits - 1) + 1) ^ 1 ≡ 2 ^ (a .bits - 1) + 1 = pow-one (2 ^ (a .bits - 1) + 1) in (
+      tile-inverse (2 ^ a .bits + 1) (2 ^ (a .bits - 1) + 1) (a .levels) (a .n) (now (a .words)) (ys b) (ts b) (c .before .before .inverse2 .last .0) (s .pre .1 .0 .side) (columns-length b)
+          (b .before .before .before .transpose .ensures) (rw one at (b .before .before .before .before .before .before .before .inverse .ensures .0)) (rw one at (c .before .before .inverse2 .ensures .0)),
+      rw (p .shl) at (c .before .before .inverse2 .ensures .1),
+    )
+
+pub inverse-tile-spec : {M : Type 1} → statement M
+inverse-tile-spec = tie.close (tie.spec inverse-requires transpose-requires shl-inverse inverse-requires-2 same-length returns)

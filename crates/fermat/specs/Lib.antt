@@ -1,0 +1,14 @@
+-- definitions
+pub mod Field
+pub mod Transform
+pub mod Order
+pub mod Butterfly
+pub mod Halving
+pub mod Tile
+-- laws
+pub mod RootLaws
+pub mod TransformLaws
+pub mod ConvolutionLaws
+pub mod HalvingLaws
+pub mod FieldLaws
+pub mod OrderLaws

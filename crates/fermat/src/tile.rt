@@ -1,0 +1,34 @@
+// The transform pair of a tile: n rows of n words, n lanes in each pass. The forward transform leaves rows and columns in each other's
+// place and in bit-reversed order; the inverse takes them so. Words are congruent and bounded, as in `halving`.
+ghost use Prim.Native.Nat.{_+_, _-_, _*_, _^_};
+ghost use lib.ListN.{length};
+ghost use Rattle.fermat.specs.Butterfly.{Bound, AtMost};
+ghost use Rattle.fermat.specs.Tile.{TileForward, TileInverse, Square};
+use crate::halving::forward;
+use crate::halving::inverse;
+use crate::order::transpose;
+
+pub fn forward_tile(words: &mut [u64], n: usize, levels: u32, bits: u32, bound: u64)
+    requires { ⌜ Bound bits bound ⌝ }
+    requires { ⌜ Square (length (now words)) n levels bits bound ⌝ }
+    requires { ⌜ AtMost bound (now words) ⌝ }
+    ensures { λ _. ⌜ TileForward (2 ^ bits + 1) 2 levels n (now (words .entry)) (now (words .exit)) ⌝ }
+    ensures { λ _. ⌜ AtMost (bound * 2 ^ levels * 2 ^ levels) (now (words .exit)) ⌝ }
+{
+    forward(words, n, n, levels, 1, bits, bound);
+    transpose(words, n);
+    forward(words, n, n, levels, 1, bits, bound << levels);
+}
+
+// Less the division by n * n.
+pub fn inverse_tile(words: &mut [u64], n: usize, levels: u32, bits: u32, bound: u64)
+    requires { ⌜ Bound bits bound ⌝ }
+    requires { ⌜ Square (length (now words)) n levels bits bound ⌝ }
+    requires { ⌜ AtMost bound (now words) ⌝ }
+    ensures { λ _. ⌜ TileInverse (2 ^ bits + 1) (2 ^ (bits - 1) + 1) levels n (now (words .entry)) (now (words .exit)) ⌝ }
+    ensures { λ _. ⌜ AtMost (bound * 2 ^ levels * 2 ^ levels) (now (words .exit)) ⌝ }
+{
+    inverse(words, n, levels, 1, bits, bound);
+    transpose(words, n);
+    inverse(words, n, levels, 1, bits, bound << levels);
+}
