@@ -6,3 +6,6 @@ mod Levels
 mod Exchange
 mod Recursion
 mod Tiles
+mod EachWord
+mod Sizes
+mod Rows

@@ -11,7 +11,7 @@ use Rattle.fermat.specs.Transform.{powerSum, transformIn, inverseIn, tra
 use Rattle.fermat.specs.RootLaws.{Root}
 use Rattle.fermat.specs.TransformLaws.{undo, redo}
 
-exponent-lt : (t : ℕ) → suc t ≤ 2 ^ t
+pub exponent-lt : (t : ℕ) → suc t ≤ 2 ^ t
 exponent-lt zero = omega arith
 exponent-lt (suc t) = omega (arith, exponent-lt t, two-pow-succ t)
 

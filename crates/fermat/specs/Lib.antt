@@ -5,6 +5,8 @@ pub mod Order
 pub mod Butterfly
 pub mod Halving
 pub mod Tile
+pub mod Rules
+pub mod Answer
 -- laws
 pub mod RootLaws
 pub mod TransformLaws
@@ -12,3 +14,7 @@ pub mod ConvolutionLaws
 pub mod HalvingLaws
 pub mod FieldLaws
 pub mod OrderLaws
+pub mod RulesLaws
+pub mod AnswerLaws
+pub mod PairLaws
+pub mod Vectors

@@ -1,0 +1,78 @@
+-- `transform_row` transforms accepted words: its steps are those of `forward-row`.
+-- It rests on the sizes of the fields and on that law.
+use mathlib.Core.Path.{ap, _∙_}
+use Prim.Native.Nat.{ℕ, _%_}
+use native.Mathlib.Omega.{arith}
+use borrow.Author.Needs.{needs}
+use denote.Ref.{now}
+use lib.ListN.{getD}
+use Rattle.fermat.proofs.Sizes.{power-high, row-bound, row-grid}
+use Rattle.fermat.proofs.Rows.{row-most, row-filled, forward-row}
+use Rattle.fermat.proofs.transform_row.Statement.{statement}
+use Rattle.fermat.proofs.transform_row.Tie as tie
+
+levels-of-requires : tie.Need-levels-of-requires
+levels-of-requires c κs = search needs
+
+modulus-of-requires : tie.Need-modulus-of-requires
+modulus-of-requires c κs = search needs
+
+bits-of-requires : tie.Need-bits-of-requires
+bits-of-requires c κs = search needs
+
+mul-forward : tie.Need-mul-forward
+mul-forward c =
+    let s = c .before .before .before .before .before in
+    omega (arith, power-high (s .args .field) (s .pre .field-high))
+
+forward-requires : tie.Need-forward-requires
+forward-requires c κs =
+    let s = c .before .before .before .before .before in
+    let t = s .args .field in
+    let a = s .pre in
+    rw (c .bits-of .ensures, c .before .before .modulus-of .ensures, c .before .before .before .levels-of .ensures)
+    (row-bound t (a .field-high), (row-grid t (a .field-high) (a .size), (row-most a, row-filled a)))
+
+reorder-requires : tie.Need-reorder-requires
+reorder-requires c κs =
+    let f = c .before .before .before in
+    let levels = f .before .before .before .before .levels-of .ensures in
+    let s = f .before .before .before .before .before .before in
+    rw levels (f .forward .kept .0 ∙ s .pre .size, omega arith)
+
+reduce-requires : tie.Need-reduce-requires
+reduce-requires c κs = search needs
+
+same-length : tie.Need-same-length
+same-length c = search needs
+
+returns : tie.Need-returns
+returns c =
+    let r = c .before .before in
+    let o = r .before .before .before .before in
+    let f = o .before .before .before .before in
+    let bits = f .before .bits-of .ensures in
+    let modulus = f .before .before .before .modulus-of .ensures in
+    let levels = f .before .before .before .before .levels-of .ensures in
+    let s = f .before .before .before .before .before .before in
+    let size = s .pre .size in
+    let size-f = f .forward .kept .0 ∙ size in
+    let size-o = o .reorder .kept .0 ∙ size-f in
+    forward-row (s .args .field) (now (s .args .words)) (f .forward .last .0) (o .reorder .last .0) (r .reduce .last .0)
+    size-f size-o (r .reduce .kept .0 ∙ size-o)
+    (rw (bits, levels) at (f .forward .ensures .0)) (rw levels at (o .reorder .ensures))
+    (λ i l. r .reduce .ensures i l ∙ ap (λ (m : ℕ). getD (o .reorder .last .0) i 0 % m) modulus)
+
+pub transform-row-spec : {M : Type 1} → statement M
+transform-row-spec =
+    tie.close
+    (tie.spec
+    levels-of-requires
+    modulus-of-requires
+    bits-of-requires
+    mul-forward
+    forward-requires
+    reorder-requires
+    reduce-requires
+    same-length
+    returns)

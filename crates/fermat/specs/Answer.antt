@@ -1,0 +1,57 @@
+-- What `transform` and `inverse` answer: the code of the checks 2, 18 and 19, and the words that they leave.
+use mathlib.Core.Path.{_≡_}
+use mathlib.Core.Bool.{Bool, true, _&&_}
+use mathlib.Core.List.{List, [], _∷_}
+use Prim.Native.Nat.{ℕ, zero, suc, _<_, _≤_}
+use lib.Dec.{ltb, eqb}
+use lib.ListN.{length, getD}
+use Rattle.algebra.specs.Places.{table}
+use Rattle.fermat.specs.Field.{modulus, points}
+use Rattle.fermat.specs.Transform.{transformIn, inverseIn}
+use Rattle.fermat.specs.Rules.{Rule, rule, firstBroken, inside}
+
+-- every word is below m
+abbrev pub allBelow : ℕ → List ℕ → Bool
+allBelow m [] = true
+allBelow m (word ∷ words) = ltb word m && allBelow m words
+
+-- 2: the field is 4 or 5. 18: there are N words. 19: each is a residue
+abbrev pub transformRules : ℕ → List ℕ → List Rule
+transformRules field words =
+    rule 2 (inside 4 5 field)
+    ∷ rule 18 (eqb (length words) (points field))
+    ∷ rule 19 (allBelow (modulus field) words)
+    ∷ []
+
+unfoldable pub transformCode : ℕ → List ℕ → ℕ
+transformCode field words = firstBroken (transformRules field words)
+
+-- the words that stand in the buffer in the end: those made where the code is 0, else those lent
+abbrev pub outcome : (code : ℕ) → (made lent : List ℕ) → List ℕ
+outcome zero made lent = made
+outcome (suc code) made lent = lent
+
+-- an operation in a field, on N numbers given by their index
+abbrev pub Operation : Type 0
+Operation = ℕ → (ℕ → ℕ) → ℕ → ℕ
+
+-- the operation on the words of a buffer
+unfoldable pub row : Operation → ℕ → List ℕ → List ℕ
+row operation field words = table (points field) (operation field (λ n. getD words n 0))
+
+unfoldable pub answered : Operation → ℕ → List ℕ → List ℕ
+answered operation field words = outcome (transformCode field words) (row operation field words) words
+
+-- what `transform` leaves, and what `inverse` leaves
+abbrev pub transformed : ℕ → List ℕ → List ℕ
+transformed = answered transformIn
+
+abbrev pub inverted : ℕ → List ℕ → List ℕ
+inverted = answered inverseIn
+
+-- what the code 0 says
+pub record Accepted (field : ℕ) (words : List ℕ) : Type 0 where
+  pub field-low : 4 ≤ field
+  pub field-high : field ≤ 5
+  pub size : length words ≡ points field
+  pub below : (i : ℕ) → i < length words → getD words i 0 < modulus field

@@ -1,0 +1,18 @@
+-- Rules in a fixed order: a check answers with the number of the first rule that does not hold, or with 0. The laws are in `RulesLaws`.
+use mathlib.Core.Bool.{Bool, _&&_, cond}
+use mathlib.Core.List.{List, [], _∷_}
+use Prim.Native.Nat.{ℕ}
+use lib.Dec.{leb}
+
+-- a rule: the number that its breach is answered with, and whether it holds
+pub data Rule : Type 0 where
+  rule : ℕ → Bool → Rule
+
+-- the number of the first rule that does not hold, or 0
+abbrev pub firstBroken : List Rule → ℕ
+firstBroken [] = 0
+firstBroken (rule number holds ∷ rules) = cond holds (firstBroken rules) number
+
+-- x is from low to high
+unfoldable pub inside : (low high x : ℕ) → Bool
+inside low high x = leb low x && leb x high

@@ -1,0 +1,44 @@
+// The numbers of a field, from its number: that of F_t is t.
+ghost use mathlib.Core.Path.{_≡_};
+ghost use Prim.Native.Nat.{_+_, _^_, _≤_};
+ghost use Rattle.fermat.specs.Field.{modulus, points, scale};
+
+// The levels of a transform: it halves its length so often.
+pub fn levels_of(field: usize) -> u32
+    requires { ⌜ field ≤ 5 ⌝ }
+    ensures { λ r. ⌜ r ≡ field + 1 ⌝ }
+{
+    field as u32 + 1
+}
+
+// The bits below the highest one of the modulus.
+pub fn bits_of(field: usize) -> u32
+    requires { ⌜ field ≤ 5 ⌝ }
+    ensures { λ r. ⌜ r ≡ 2 ^ field ⌝ }
+{
+    1u32 << (field as u32)
+}
+
+// N.
+pub fn points_of(field: usize) -> usize
+    requires { ⌜ field ≤ 5 ⌝ }
+    ensures { λ r. ⌜ r ≡ points field ⌝ }
+{
+    1usize << levels_of(field)
+}
+
+pub fn modulus_of(field: usize) -> u64
+    requires { ⌜ field ≤ 5 ⌝ }
+    ensures { λ r. ⌜ r ≡ modulus field ⌝ }
+{
+    (1u64 << bits_of(field)) + 1
+}
+
+// 1/N.
+pub fn scale_of(field: usize) -> u64
+    requires { ⌜ field ≤ 5 ⌝ }
+    ensures { λ r. ⌜ r ≡ scale field ⌝ }
+{
+    let rest = bits_of(field) - levels_of(field);
+    modulus_of(field) - (1u64 << rest)
+}

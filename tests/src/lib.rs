@@ -1,0 +1,4 @@
+//! Direct sums, written from the request's formulas and independent of the engine.
+
+pub mod cases;
+pub mod transform;
