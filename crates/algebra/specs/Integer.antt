@@ -8,7 +8,7 @@ use Prim.Native.Nat.{ℕ, zero, suc, _+_, _*_}
 use native.Mathlib.Nat.{add-zero, add-comm}
 use native.Mathlib.Omega.{arith}
 use lib.IntN.{ℤ, pos, negsuc, negℤ, sucℤ, predℤ, _+ℤ_, _-ℤ_, _*ℤ_}
-use lib.IntN.{+ℤ-idl, +ℤ-idr, +ℤ-assoc, +ℤ-comm, +ℤ-invr, negℤ-+ℤ, negℤ-negℤ, negℤ-sucℤ}
+use lib.IntN.{+ℤ-idl, +ℤ-idr, +ℤ-comm, +ℤ-invr, negℤ-+ℤ, negℤ-negℤ, negℤ-sucℤ}
 use lib.IntN.{sucℤ-+ℤ, +ℤ-predℤ, sucℤ-*ℤ, predℤ-*ℤ, zero-*ℤ}
 use Rattle.algebra.specs.SumLaws.{integers, plus-exchange}
 

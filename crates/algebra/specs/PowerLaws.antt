@@ -1,7 +1,7 @@
 -- Laws of powers of natural numbers that the kit's library lacks.
-use mathlib.Core.Path.{_≡_, refl}
+use mathlib.Core.Path.{_≡_}
 use Prim.Native.Nat.{ℕ, zero, suc, _+_, _*_, _^_}
-use native.Mathlib.Nat.{pow-zero, pow-suc, mul-zero, mul-suc, one-mul}
+use native.Mathlib.Nat.{pow-zero, pow-suc, mul-zero, one-mul}
 use native.Mathlib.Omega.{arith}
 use lib.Pow.{pow-add}
 

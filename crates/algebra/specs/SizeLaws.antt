@@ -8,7 +8,7 @@ use native.Mathlib.Omega.{arith}
 use lib.Dec.{ltb}
 use lib.IntN.{ℤ, pos, negsuc, negℤ, natAbs, _+ℤ_, _*ℤ_}
 use Rattle.algebra.specs.Sum.{sum, sumZ}
-use Rattle.algebra.specs.SumLaws.{sum-none, sum-last, sumZ-none, sumZ-last}
+use Rattle.algebra.specs.SumLaws.{sum-last, sumZ-none, sumZ-last}
 
 pub size-neg : (z : ℤ) → natAbs (negℤ z) ≡ natAbs z
 size-neg (pos zero) = refl

@@ -65,7 +65,8 @@ pub sum-map : {A B : Type 0} (S : Addition A) (T : Addition B) (h : A → B) →
     → ((x y : A) → h (S .plus x y) ≡ T .plus (h x) (h y)) → (n : ℕ) (f : ℕ → A) → T .total n (λ i. h (f i)) ≡ h (S .total n f)
 sum-map S T h h-none h-plus zero f = T .total-none (λ i. h (f i)) ∙ sym (ap h (S .total-none f) ∙ h-none)
 sum-map S T h h-none h-plus (suc n) f =
-    T .total-last n (λ i. h (f i)) ∙ ap (λ z. T .plus z (h (f n))) (sum-map S T h h-none h-plus n f) ∙ sym (ap h (S .total-last n f) ∙ h-plus (S .total n f) (f n))
+    T .total-last n (λ i. h (f i)) ∙ ap (λ z. T .plus z (h (f n))) (sum-map S T h h-none h-plus n f)
+    ∙ sym (ap h (S .total-last n f) ∙ h-plus (S .total n f) (f n))
 
 module _ {A : Type 0} (S : Addition A) where
   pub plus-none-right : (x : A) → S .plus x (S .none) ≡ x
@@ -120,7 +121,8 @@ module _ {A : Type 0} (S : Addition A) where
   pub sum-even-odd : (n : ℕ) (f : ℕ → A) → S .total (2 * n) f ≡ S .plus (S .total n (λ i. f (2 * i))) (S .total n (λ i. f (2 * i + 1)))
   sum-even-odd zero f = S .total-none f ∙ sym (ap₂ (S .plus) (S .total-none _) (S .total-none _) ∙ S .plus-none (S .none))
   sum-even-odd (suc n) f =
-      ap (λ k. S .total k f) (twice n) ∙ S .total-last (suc (2 * n)) f ∙ ap (λ z. S .plus z (f (suc (2 * n)))) (S .total-last (2 * n) f ∙ ap (λ z. S .plus z (f (2 * n))) (sum-even-odd n f))
+      ap (λ k. S .total k f) (twice n) ∙ S .total-last (suc (2 * n)) f
+      ∙ ap (λ z. S .plus z (f (suc (2 * n)))) (S .total-last (2 * n) f ∙ ap (λ z. S .plus z (f (2 * n))) (sum-even-odd n f))
       ∙ S .plus-assoc (S .plus evens odds) (f (2 * n)) (f (suc (2 * n)))
       ∙ plus-exchange evens odds (f (2 * n)) (f (suc (2 * n)))
       ∙ sym (ap₂ (S .plus) (S .total-last n (λ i. f (2 * i))) (S .total-last n (λ i. f (2 * i + 1)) ∙ ap (λ k. S .plus odds (f k)) (next n)))

@@ -1,23 +1,21 @@
 -- One level of the recursion: the numbers of a level and of the next one, and what a stage leaves in the two halves.
-use mathlib.Core.Path.{_≡_, refl, sym, ap, _∙_, subst}
-use mathlib.Core.List.{List, _++_}
+use mathlib.Core.Path.{_≡_, ap, _∙_}
+use mathlib.Core.List.{List}
 use Prim.Native.Nat.{ℕ, zero, suc, _+_, _-_, _*_, _/_, _%_, _^_, _<_, _≤_, min}
-use native.Mathlib.Nat.{two-pow-succ, add-mul, mul-add, mul-one, mul-assoc, mod-eq-of-lt, zero-mul, mul-le-mul-left, mul-le-mul-right, div-add-mod', div-lt-iff-lt-mul, mod-lt, le-div-iff-mul-le}
+use native.Mathlib.Nat.{two-pow-succ, add-mul, mul-add, mul-one, mul-assoc, mod-eq-of-lt, zero-mul, mul-le-mul-left, mul-le-mul-right}
 use native.Mathlib.Decide.{decLt}
 use native.Mathlib.Omega.{arith}
 use lib.Arith.{digits-div}
 use lib.ListN.{length, getD, take, drop, length-drop}
 use lib.Pow.{pow-pos}
 use lib.Seq.{getD-take, getD-drop, length-take-le}
-use Rattle.algebra.specs.Places.{Run}
 use Rattle.algebra.specs.CongruenceLaws.{c-eq, c-refl}
-use Rattle.fermat.specs.Butterfly.{Relation, Bound, Parted, Joined, Made, AtMost, Staged, Sized}
+use Rattle.fermat.specs.Butterfly.{Bound, Parted, Made, AtMost, Staged}
 use Rattle.fermat.specs.Halving.{word, Grid, Filled}
 use Rattle.fermat.specs.declared.butterfly.Step.{Step}
-use Rattle.fermat.specs.declared.butterfly.Step.the-variants.{Plain, Forward, Inverse}
+use Rattle.fermat.specs.declared.butterfly.Step.the-variants.{Forward, Inverse}
 use Rattle.fermat.proofs.Words.{one-shl, bound-times}
 use Rattle.fermat.proofs.Stages.{row-le}
-use Rattle.fermat.proofs.Pairs.{same-before, same-after}
 
 -- the numbers of a level that is not the last, and of the next one
 pub record Level (n lanes l unit b c : ℕ) : Type 0 where
@@ -88,7 +86,8 @@ level {n} {lanes} {l} {unit} {b} {c} pos bound grid =
 -- ---- what a stage leaves
 
 -- a list of two halves is known pair by pair
-pub pairs-most : (c half : ℕ) (ys : List ℕ) → length ys ≡ 2 * half → ((i : ℕ) → i < half → (getD ys i 0 ≤ c) × (getD ys (half + i) 0 ≤ c)) → AtMost c ys
+pub pairs-most : (c half : ℕ) (ys : List ℕ) → length ys ≡ 2 * half
+    → ((i : ℕ) → i < half → (getD ys i 0 ≤ c) × (getD ys (half + i) 0 ≤ c)) → AtMost c ys
 pairs-most c half ys size most i l = go (decLt i half)
   where
     go : Dec (i < half) → getD ys i 0 ≤ c

@@ -3,6 +3,7 @@
 use mathlib.Core.Path.{_≡_, sym, ap, _∙_}
 use mathlib.Core.List.{List}
 use Prim.Native.Nat.{ℕ, _+_, _*_, _%_, _<_}
+use native.Mathlib.Nat.{one-mul}
 use native.Mathlib.Omega.{arith}
 use lib.ListN.{length, getD}
 use lib.Pow.{pow-pos}
@@ -36,11 +37,11 @@ module _ {t : ℕ} {xs : List ℕ} (a : Accepted t xs) where
 module _ (t : ℕ) (xs ys zs us : List ℕ) (size-y : length ys ≡ points t) (size-z : length zs ≡ points t) (size-u : length us ≡ points t) where
   -- by halving, then in order, then reduced
   pub forward-row : Forward (modulus t) 2 (t + 1) 1 xs ys → Permuted (reversed (t + 1)) ys zs
-      → ((i : ℕ) → i < length zs → getD us i 0 ≡ getD zs i 0 % modulus t) → us ≡ row transformIn t xs
+      → ((i : ℕ) → i < length zs → getD us i 0 ≡ (1 * getD zs i 0) % modulus t) → us ≡ row transformIn t xs
   unfolding row transformAt
   forward-row forward ordered reduced =
       table-of 0 (points t) _ us size-u (λ k l.
-      reduced k (omega arith) ∙ ap (λ (x : ℕ). x % modulus t) (ordered k (omega arith) ∙ sym (lane ys (reversed (t + 1) k)))
+      reduced k (omega arith) ∙ ap (λ (x : ℕ). x % modulus t) (one-mul (getD zs k 0) ∙ ordered k (omega arith) ∙ sym (lane ys (reversed (t + 1) k)))
       ∙ (forward k 0 l (omega arith) ⨟ c-power-sum (points t) 2 _ (λ i. getD xs i 0) k (λ i _. c-eq (lane xs i))) .same)
 
   -- in bit-reversed order, then by halving, then scaled

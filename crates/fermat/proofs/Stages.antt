@@ -1,15 +1,15 @@
 -- Laws of a stage, row by row: which powers a row takes, a row that is still as it was lent, one row more, and row 0 at the end.
-use mathlib.Core.Path.{_≡_, refl, sym, ap, _∙_, subst}
+use mathlib.Core.Path.{_≡_, sym, ap, _∙_, subst}
 use mathlib.Core.Logic.{_⊎_, inl, inr}
 use mathlib.Core.List.{List}
-use Prim.Native.Nat.{ℕ, zero, suc, _+_, _-_, _*_, _/_, _%_, _^_, _<_, _≤_}
-use native.Mathlib.Nat.{suc-mul, zero-mul, mul-suc, mul-zero, div-add-mod', div-lt-iff-lt-mul, mod-lt, mul-le-mul-left, mul-le-mul-right}
+use Prim.Native.Nat.{ℕ, suc, _+_, _-_, _*_, _/_, _^_, _<_, _≤_}
+use native.Mathlib.Nat.{suc-mul, zero-mul, mul-suc, mul-zero, mul-le-mul-left, mul-le-mul-right}
 use native.Mathlib.Decide.{decLt}
 use native.Mathlib.Omega.{arith}
 use lib.Arith.{digits-div}
-use lib.ListN.{length, getD}
+use lib.ListN.{length}
 use Rattle.algebra.specs.Places.{Run}
-use Rattle.fermat.specs.Butterfly.{Relation, Made, Ready, Paired, PairsAtMost, AtMost, Staged, Sized, Joined}
+use Rattle.fermat.specs.Butterfly.{Relation, Made, Ready, Paired, PairsAtMost, AtMost, Staged, Joined}
 use Rattle.fermat.specs.declared.butterfly.Step.{Step}
 use Rattle.fermat.specs.declared.butterfly.Step.the-variants.{Plain, Forward, Inverse}
 use Rattle.fermat.proofs.Words.{plain-inverse}

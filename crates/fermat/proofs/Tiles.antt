@@ -1,12 +1,11 @@
 -- The two passes over a tile: what they make together, the sizes of each, and the bound across a transposition.
 use mathlib.Core.Path.{_≡_, refl, sym, ap, _∙_}
 use mathlib.Core.List.{List}
-use Prim.Native.Nat.{ℕ, _+_, _*_, _%_, _^_, _<_, _≤_}
+use Prim.Native.Nat.{ℕ, _*_, _%_, _^_, _<_, _≤_}
 use native.Mathlib.Nat.{one-mul, mul-one, mod-eq-of-lt, mul-le-mul-left}
 use native.Mathlib.Omega.{arith}
-use lib.ListN.{length, getD}
+use lib.ListN.{length}
 use lib.Pow.{pow-pos}
-use Rattle.algebra.specs.Congruence.{Cong}
 use Rattle.algebra.specs.CongruenceLaws.{c-eq, _⨟_, c-via}
 use Rattle.fermat.specs.Transform.{powerSum, powerSum2}
 use Rattle.fermat.specs.Order.{reversed, across, Permuted}

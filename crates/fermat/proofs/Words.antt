@@ -1,7 +1,7 @@
 -- Laws of single words: a word times a power of 2, and what each butterfly makes of two words.
 use mathlib.Core.Path.{_≡_, refl, sym, ap, _∙_, subst}
 use Prim.Native.Nat.{ℕ, zero, suc, _+_, _-_, _*_, _/_, _%_, _^_, _≤_, _<_}
-use native.Mathlib.Nat.{mul-assoc, add-mul, mul-le-mul-left, mul-le-mul-right, mod-lt, div-le-of-le-mul, le-trans, mul-one, zero-mul, one-mul}
+use native.Mathlib.Nat.{mul-assoc, add-mul, mul-le-mul-right, mod-lt, div-le-of-le-mul, le-trans, one-mul}
 use native.Mathlib.Omega.{arith}
 use lib.Pow.{pow-pos, pow-mono, pow-add, shl-exact, shl-lt, split}
 use Rattle.algebra.specs.Congruence.{Cong}

@@ -4,12 +4,9 @@ use Prim.Native.Nat.{ℕ, zero, suc, _+_, _-_, _*_, _^_, _≤_, _<_}
 use native.Mathlib.Nat.{mod-self, zero-mod, two-pow-succ, pow-succ'}
 use native.Mathlib.Omega.{arith}
 use lib.Pow.{pow-add, pow-pos, pow-mono}
-use Rattle.algebra.specs.Sum.{sum}
 use Rattle.algebra.specs.CongruenceLaws.{c-via, c-multiple}
 use Rattle.fermat.specs.Field.{modulus, points, half, scale}
-use Rattle.fermat.specs.Transform.{powerSum, transformIn, inverseIn, transformAt, inverseAt}
 use Rattle.fermat.specs.RootLaws.{Root}
-use Rattle.fermat.specs.TransformLaws.{undo, redo}
 
 pub exponent-lt : (t : ℕ) → suc t ≤ 2 ^ t
 exponent-lt zero = omega arith

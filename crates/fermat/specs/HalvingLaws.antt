@@ -81,7 +81,9 @@ module _ {m : ℕ} (h w : ℕ) (minus : Cong m (w ^ h + 1) 0) (x : ℕ → ℕ) 
   unfolding powerSum
   whole e =
       ap (λ (n : ℕ). sum n (λ i. x i * w ^ (i * e))) (omega arith) ∙ sum-split naturals h h (λ i. x i * w ^ (i * e))
-      ∙ ap (λ (z : ℕ). lower e + z) (sum-cong naturals h _ (λ i. (w ^ h) ^ e * (x (h + i) * w ^ (i * e))) (λ i _. carried i) ∙ sum-mul h ((w ^ h) ^ e) (λ i. x (h + i) * w ^ (i * e)))
+      ∙ ap (λ (z : ℕ). lower e + z)
+      (sum-cong naturals h _ (λ i. (w ^ h) ^ e * (x (h + i) * w ^ (i * e))) (λ i _. carried i)
+      ∙ sum-mul h ((w ^ h) ^ e) (λ i. x (h + i) * w ^ (i * e)))
     where
       power : (i : ℕ) → w ^ ((h + i) * e) ≡ (w ^ h) ^ e * w ^ (i * e)
       power i = ap (λ (z : ℕ). w ^ z) (omega arith) ∙ pow-add w (h * e) (i * e) ∙ ap (λ (z : ℕ). z * w ^ (i * e)) (pow-mul w h e)

@@ -1,7 +1,7 @@
 -- What the contracts of the transforms of a tile say: n rows of n words, columns first, then rows.
 use mathlib.Core.Path.{_≡_}
 use mathlib.Core.List.{List}
-use Prim.Native.Nat.{ℕ, _+_, _*_, _^_, _<_, _≤_}
+use Prim.Native.Nat.{ℕ, _*_, _^_, _<_, _≤_}
 use Rattle.algebra.specs.Congruence.{Cong}
 use Rattle.fermat.specs.Transform.{powerSum2}
 use Rattle.fermat.specs.Order.{reversed}

@@ -1,7 +1,7 @@
 -- Laws of the transform: it respects congruence, sums and factors, and each of the transform and its inverse undoes the other.
 -- The laws on sums that are not reduced are congruences; those on residues are equations.
 use mathlib.Core.Path.{_≡_, refl, sym, ap, _∙_}
-use Prim.Native.Nat.{ℕ, suc, _+_, _*_, _%_, _^_, _<_}
+use Prim.Native.Nat.{ℕ, suc, _*_, _^_, _<_}
 use native.Mathlib.Nat.{mul-comm, mod-eq-of-lt}
 use native.Mathlib.Omega.{arith}
 use Rattle.algebra.specs.Sum.{sum}
@@ -11,7 +11,8 @@ use Rattle.algebra.specs.CongruenceLaws.{c-refl, _⨟_, c-via, c-mul, c-sum, c-
 use Rattle.fermat.specs.Transform.{powerSum, powerSum2, transformAt, inverseAt}
 use Rattle.fermat.specs.RootLaws.{Root, root-inverse, orthogonal-other, orthogonal-same}
 
-pub c-power-sum : {m : ℕ} (n w : ℕ) (x y : ℕ → ℕ) (k : ℕ) → ((i : ℕ) → i < n → Cong m (x i) (y i)) → Cong m (powerSum n w x k) (powerSum n w y k)
+pub c-power-sum : {m : ℕ} (n w : ℕ) (x y : ℕ → ℕ) (k : ℕ) → ((i : ℕ) → i < n → Cong m (x i) (y i))
+    → Cong m (powerSum n w x k) (powerSum n w y k)
 unfolding powerSum
 c-power-sum n w x y k h = c-sum (λ i l. c-mul (h i l) c-refl)
 

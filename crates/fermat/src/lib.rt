@@ -38,7 +38,7 @@ fn transform_row(field: usize, words: &mut [u64])
     let m = field::modulus_of(field);
     halving::forward(words, n, 1, levels, 1, field::bits_of(field), 2 * m);
     order::reorder(words, levels);
-    residues::reduce(words, m);
+    residues::scale(words, 1, m);
 }
 
 // The inverse of accepted words: the same steps backwards, and the division by N.

@@ -1,4 +1,4 @@
-// Loops over words: whether all are residues, each one's remainder, and each one times a number.
+// Loops over words: whether all are residues, and each one times a number, reduced.
 ghost use mathlib.Core.Path.{_≡_};
 ghost use Prim.Native.Nat.{ℕ, _*_, _%_, _<_, _≤_};
 ghost use lib.ListN.{length, getD};
@@ -16,18 +16,6 @@ pub fn all_below(words: &[u64], m: u64) -> bool
         i += 1;
     }
     true
-}
-
-// Each word becomes its remainder by m.
-pub fn reduce(words: &mut [u64], m: u64)
-    requires { ⌜ 0 < m ⌝ }
-    ensures { λ _. ⌜ ((i : ℕ) → i < length (now (words .entry)) → getD (now (words .exit)) i 0 ≡ getD (now (words .entry)) i 0 % m) ⌝ }
-{
-    let mut i = 0;
-    while i < words.len() {
-        words[i] = words[i] % m;
-        i += 1;
-    }
 }
 
 // Each word is multiplied by s and becomes its remainder by m. The product of s and a remainder fits a word.

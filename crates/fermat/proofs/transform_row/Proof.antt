@@ -1,7 +1,7 @@
 -- `transform_row` transforms accepted words: its steps are those of `forward-row`.
 -- It rests on the sizes of the fields and on that law.
 use mathlib.Core.Path.{ap, _∙_}
-use Prim.Native.Nat.{ℕ, _%_}
+use Prim.Native.Nat.{ℕ, _*_, _%_}
 use native.Mathlib.Omega.{arith}
 use borrow.Author.Needs.{needs}
 use denote.Ref.{now}
@@ -40,8 +40,11 @@ reorder-requires c κs =
     let s = f .before .before .before .before .before .before in
     rw levels (f .forward .kept .0 ∙ s .pre .size, omega arith)
 
-reduce-requires : tie.Need-reduce-requires
-reduce-requires c κs = search needs
+scale-requires : tie.Need-scale-requires
+scale-requires c κs =
+    let m = c .before .before .before .before .before .before .before .before .before .before in
+    let s = m .before .before .before in
+    omega (arith, m .modulus-of .ensures, power-high (s .args .field) (s .pre .field-high))
 
 same-length : tie.Need-same-length
 same-length c = search needs
@@ -58,10 +61,10 @@ returns c =
     let size = s .pre .size in
     let size-f = f .forward .kept .0 ∙ size in
     let size-o = o .reorder .kept .0 ∙ size-f in
-    forward-row (s .args .field) (now (s .args .words)) (f .forward .last .0) (o .reorder .last .0) (r .reduce .last .0)
-    size-f size-o (r .reduce .kept .0 ∙ size-o)
+    forward-row (s .args .field) (now (s .args .words)) (f .forward .last .0) (o .reorder .last .0) (r .scale .last .0)
+    size-f size-o (r .scale .kept .0 ∙ size-o)
     (rw (bits, levels) at (f .forward .ensures .0)) (rw levels at (o .reorder .ensures))
-    (λ i l. r .reduce .ensures i l ∙ ap (λ (m : ℕ). getD (o .reorder .last .0) i 0 % m) modulus)
+    (λ i l. r .scale .ensures i l ∙ ap (λ (m : ℕ). (1 * getD (o .reorder .last .0) i 0) % m) modulus)
 
 pub transform-row-spec : {M : Type 1} → statement M
 transform-row-spec =
@@ -73,6 +76,6 @@ transform-row-spec =
     mul-forward
     forward-requires
     reorder-requires
-    reduce-requires
+    scale-requires
     same-length
     returns)

@@ -1,6 +1,6 @@
 -- The state of the loop: the pairs of the first k lanes are changed, the others as lent.
 use mathlib.Core.Path.{_≡_, refl}
-use Prim.Native.Nat.{ℕ, _+_, _-_, _*_, _≤_, _<_}
+use Prim.Native.Nat.{ℕ, _+_, _-_, _≤_}
 use lib.ListN.{length, getD, length-set}
 use denote.Ref.{now}
 use Rattle.algebra.specs.Places.{Run}

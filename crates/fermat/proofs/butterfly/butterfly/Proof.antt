@@ -1,9 +1,8 @@
 -- Each arm is its law of Words, for the step that the arm tells.
 use mathlib.Core.Path.{_≡_}
-use Prim.Native.Nat.{_-_, _<_}
+use Prim.Native.Nat.{_-_, _≤_}
 use native.Mathlib.Omega.{arith}
 use borrow.Author.Needs.{needs}
-use Rattle.fermat.specs.Butterfly.{Made, Ready}
 use Rattle.fermat.specs.declared.butterfly.Step.the-variants.{Plain, Forward, Inverse}
 use Rattle.fermat.proofs.Words.{bound-multiple, plain-law, forward-law, inverse-fits, inverse-law}
 use Rattle.fermat.proofs.butterfly.butterfly.Statement.{statement}
@@ -59,15 +58,18 @@ turned-requires-2 c κs =
 add-t17 : tie.Need-add-t17
 add-t17 c = search needs
 
-sub-t18 : tie.Need-sub-t18
-sub-t18 c =
+-- the second word, turned, is at most the bound
+small : (c : tie.After-turned2) → c .turned2 .result ≤ c .before .before .before .args .bound
+small c =
     let s = c .before .before .before in
-    omega (arith, inverse-fits (s .pre .0) (s .args .u) (s .args .v) (s .pre .1 .1) (s .pre .1 .2) (s .args .bits - s .args .t) (c .turned2 .result) (c .turned2 .ensures))
+    inverse-fits (s .pre .0) (s .args .u) (s .args .v) (s .pre .1 .1) (s .pre .1 .2) (s .args .bits - s .args .t) (c .turned2 .result)
+    (c .turned2 .ensures)
+
+sub-t18 : tie.Need-sub-t18
+sub-t18 c = omega (arith, small c)
 
 add-t19 : tie.Need-add-t19
-add-t19 c =
-    let s = c .before .before .before in
-    omega (arith, inverse-fits (s .pre .0) (s .args .u) (s .args .v) (s .pre .1 .1) (s .pre .1 .2) (s .args .bits - s .args .t) (c .turned2 .result) (c .turned2 .ensures))
+add-t19 c = omega (arith, small c)
 
 returns : tie.Need-returns
 returns c =
@@ -79,14 +81,16 @@ returns-2 : tie.Need-returns-2
 returns-2 c =
     let s = c .before .before .before in
     let is : s .args .step ≡ Forward = c .before .enum-told2 .given .1 in
-    rw is (forward-law (s .pre .0) (s .args .u) (s .args .v) (s .pre .1 .1) (s .pre .1 .2) (s .args .t) (c .turned .result) (c .turned .ensures))
+    rw is
+    (forward-law (s .pre .0) (s .args .u) (s .args .v) (s .pre .1 .1) (s .pre .1 .2) (s .args .t) (c .turned .result) (c .turned .ensures))
 
 returns-3 : tie.Need-returns-3
 returns-3 c =
     let s = c .before .before .before in
     let is : s .args .step ≡ Inverse = c .before .enum-told3 .given .1 in
     rw is
-    (inverse-law (s .pre .0) (s .args .u) (s .args .v) (s .pre .1 .1) (s .pre .1 .2) (s .args .bits - s .args .t) (c .turned2 .result) (c .turned2 .ensures))
+    (inverse-law (s .pre .0) (s .args .u) (s .args .v) (s .pre .1 .1) (s .pre .1 .2) (s .args .bits - s .args .t) (c .turned2 .result)
+    (c .turned2 .ensures))
 
 pub butterfly-spec : {M : Type 1} → statement M
 butterfly-spec =

@@ -9,10 +9,10 @@ use borrow.Fn.Kinds.{In}
 use borrow.Fn.PlainCycle.{Measures, is, falls, and}
 use borrow.Rule.Slice.PartMut.{putMid}
 use denote.Ref.{now}
-use lib.ListN.{length, take, drop, length-append}
+use lib.ListN.{length, drop, length-append}
 use lib.Pow.{pow-pos}
 use lib.Seq.{length-take-le}
-use Rattle.fermat.specs.Butterfly.{AtMost, Staged}
+use Rattle.fermat.specs.Butterfly.{AtMost}
 use Rattle.fermat.specs.Halving.{Inverse}
 use Rattle.fermat.specs.declared.butterfly.Step.the-variants.{Inverse as InverseStep}
 use Rattle.fermat.proofs.Parts.{first-length, whole-length, second, second-length, both, take-most, drop-most, append-most}
@@ -148,7 +148,8 @@ module _ (t : ℕ) where
       )
 
   -- a shift by the levels is short
-  small : (c : inverse-lts.After-stage-arg (calls t) (inverse-at t) inverse.Post) → c .before .before .before .before .before .before .before .before .before .before .before .args .levels ≤ 6
+  small : (c : inverse-lts.After-stage-arg (calls t) (inverse-at t) inverse.Post) →
+      c .before .before .before .before .before .before .before .before .before .before .before .args .levels ≤ 6
   small c = c .before .before .before .before .before .before .before .before .before .before .before .pre .1 .1 .0 .levels
 
   cast-stage : inverse-lts.Need-cast-stage (calls t) (inverse-at t) inverse.Post

@@ -2,7 +2,6 @@
 use mathlib.Core.Path.{_≡_, sym, _∙_}
 use mathlib.Core.List.{List}
 use Prim.Native.Nat.{ℕ, _+_, _-_, _*_, _^_}
-use native.Mathlib.Omega.{arith}
 use borrow.Author.Needs.{needs}
 use denote.Ref.{now}
 use lib.ListN.{length}
@@ -22,22 +21,28 @@ transpose-requires c κs = search needs
 shl-forward : tie.Need-shl-forward
 shl-forward c = search needs
 
--- before the second pass: the lengths after the first one and after the transposition
+-- before the second pass: the words after the first one and after the transposition, and their lengths
 module _ (c : tie.After-forward-arg2) where
+  abbrev first : tie.After-forward
+  first = c .before .before .before .before .before .before .before
+
+  abbrev turned : tie.After-transpose
+  turned = c .before .before .before
+
   abbrev start : tie.Start
-  start = c .before .before .before .before .before .before .before .before .before .before
+  start = first .before .before .before
 
   abbrev ys : List ℕ
-  ys = c .before .before .before .before .before .before .before .forward .last .0
+  ys = first .forward .last .0
 
   abbrev ts : List ℕ
-  ts = c .before .before .before .transpose .last .0
+  ts = turned .transpose .last .0
 
   columns-length : length ys ≡ start .args .n * start .args .n
-  columns-length = c .before .before .before .before .before .before .before .forward .kept .0 ∙ start .pre .1 .0 .whole
+  columns-length = first .forward .kept .0 ∙ start .pre .1 .0 .whole
 
   rows-length : length ts ≡ length ys
-  rows-length = c .before .before .before .transpose .kept .0
+  rows-length = turned .transpose .kept .0
 
 forward-requires-2 : tie.Need-forward-requires-2
 forward-requires-2 c κs =
@@ -45,8 +50,9 @@ forward-requires-2 c κs =
     let a = s .args in
     let p = passes (s .pre .0) (s .pre .1 .0) in
     let whole : length (ts c) ≡ length (now (a .words)) = rows-length c ∙ columns-length c ∙ sym (s .pre .1 .0 .whole) in
-    let most = transposed-most (a .n) (a .bound * 2 ^ a .levels) (ys c) (ts c) (columns-length c) (rows-length c)
-    (c .before .before .before .transpose .ensures) (c .before .before .before .before .before .before .before .forward .ensures .1) in
+    let most =
+    transposed-most (a .n) (a .bound * 2 ^ a .levels) (ys c) (ts c) (columns-length c) (rows-length c) (turned c .transpose .ensures)
+    (first c .forward .ensures .1) in
     rw (p .shl) (p .bound, (rw whole (p .second), (most, all-filled (a .n) (ts c) (p .some) (rows-length c ∙ columns-length c))))
 
 same-length : tie.Need-same-length
@@ -54,13 +60,13 @@ same-length c = search needs
 
 returns : tie.Need-returns
 returns c =
-    let b = c .before .before .before in
+    let last = c .before .before in
+    let b = last .before in
     let s = start b in
-    let a = s .args in
-    let p = passes (s .pre .0) (s .pre .1 .0) in (
-      tile-forward (2 ^ a .bits + 1) 2 (a .levels) (a .n) (now (a .words)) (ys b) (ts b) (c .before .before .forward2 .last .0) (s .pre .1 .0 .side) (columns-length b)
-          (b .before .before .before .transpose .ensures) (b .before .before .before .before .before .before .before .forward .ensures .0) (c .before .before .forward2 .ensures .0),
-      rw (p .shl) at (c .before .before .forward2 .ensures .1),
+    let a = s .args in (
+      tile-forward (2 ^ a .bits + 1) 2 (a .levels) (a .n) (now (a .words)) (ys b) (ts b) (last .forward2 .last .0) (s .pre .1 .0 .side)
+          (columns-length b) (turned b .transpose .ensures) (first b .forward .ensures .0) (last .forward2 .ensures .0),
+      rw (passes (s .pre .0) (s .pre .1 .0) .shl) at (last .forward2 .ensures .1),
     )
 
 pub forward-tile-spec : {M : Type 1} → statement M
