@@ -1,25 +1,32 @@
--- A loop that replaces each word by f of it: the words before i are done, the others are as they were. It rests on the laws of `Written`.
-use mathlib.Core.Path.{_≡_, ap, _∙_}
+-- A loop that changes one word after another: the words before i are done, R says how, and the others are as they were.
+use mathlib.Core.Path.{_≡_, refl, sym, _∙_, subst}
 use mathlib.Core.List.{List}
 use Prim.Native.Nat.{ℕ, _+_, _<_, _≤_}
+use native.Mathlib.Decide.{ℕ-discrete}
 use native.Mathlib.Omega.{arith}
-use lib.ListN.{length, getD, set}
-use Rattle.algebra.specs.Places.{Written, Run}
-use Rattle.algebra.specs.PlacesLaws.{written-nothing, written-longer}
+use lib.ListN.{length, getD, set, length-set}
+use lib.Seq.{getD-set-same, getD-set-other}
 
--- a record, so that f is found from a proof of it
-pub record Passed (f : ℕ → ℕ) (i : ℕ) (xs ys : List ℕ) : Type 0 where
-  pub written : Written 0 (Run 0 i) (λ p. f (getD xs p 0)) xs ys
+-- R p a b: at place p the word a becomes b
+pub record Passed (R : ℕ → ℕ → ℕ → Type 0) (i : ℕ) (xs ys : List ℕ) : Type 0 where
+  pub size : length ys ≡ length xs
+  pub done : (p : ℕ) → p < i → R p (getD xs p 0) (getD ys p 0)
+  pub left : (p : ℕ) → i ≤ p → getD ys p 0 ≡ getD xs p 0
 
-module _ {f : ℕ → ℕ} {xs : List ℕ} where
-  pub pass-none : Passed f 0 xs xs
-  pass-none = record { written = written-nothing (λ p h. omega arith) }
+module _ {R : ℕ → ℕ → ℕ → Type 0} {xs : List ℕ} where
+  pub pass-none : Passed R 0 xs xs
+  pass-none = record { size = refl; done = λ p l. absurd (omega arith); left = λ p l. refl }
 
-  pub pass-next : {ys : List ℕ} {i : ℕ} (x : ℕ) → i < length xs → Passed f i xs ys → x ≡ f (getD ys i 0) → Passed f (i + 1) xs (set ys i x)
-  pass-next {ys} {i} x l w e =
-      let start : 0 + i ≡ i = omega arith in
-      let old : getD ys i 0 ≡ getD xs (0 + i) 0 = w .written .kept i (λ h. omega arith) ∙ ap (λ (p : ℕ). getD xs p 0) (omega arith) in
-      record { written = rw start at (written-longer 0 i x (omega arith) (w .written) (e ∙ ap f old)) }
-
-  pub pass-all : {ys : List ℕ} {i : ℕ} → length xs ≤ i → Passed f i xs ys → (p : ℕ) → p < length xs → getD ys p 0 ≡ f (getD xs p 0)
-  pass-all h w p l = w .written .here p l (omega arith, omega arith)
+  pub pass-next : {ys : List ℕ} {i : ℕ} (x : ℕ) → i < length xs → Passed R i xs ys → R i (getD ys i 0) x
+      → Passed R (i + 1) xs (set ys i x)
+  pass-next {ys} {i} x l w r = record {
+    size = length-set ys i x ∙ w .size;
+    done = λ p lp. go p lp (ℕ-discrete p i);
+    left = λ p lp. getD-set-other ys i p x 0 (λ e. omega arith) ∙ w .left p (omega arith);
+  }
+    where
+      go : (p : ℕ) → p < i + 1 → Dec (p ≡ i) → R p (getD xs p 0) (getD (set ys i x) p 0)
+      go p lp (yes e) =
+          subst (λ (k : ℕ). R k (getD xs k 0) (getD (set ys i x) k 0)) (sym e)
+          (rw (getD-set-same ys i x 0 (omega (arith, w .size))) (subst (λ (a : ℕ). R i a x) (w .left i (omega arith)) r))
+      go p lp (no d) = rw (getD-set-other ys i p x 0 d) (w .done p (omega arith))

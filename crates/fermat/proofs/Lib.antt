@@ -9,3 +9,5 @@ mod Tiles
 mod EachWord
 mod Sizes
 mod Rows
+mod Products
+mod Finish

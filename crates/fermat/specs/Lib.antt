@@ -5,6 +5,7 @@ pub mod Order
 pub mod Butterfly
 pub mod Halving
 pub mod Tile
+pub mod Product
 pub mod Rules
 pub mod Answer
 -- laws

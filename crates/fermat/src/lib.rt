@@ -8,6 +8,7 @@ mod butterfly;
 pub mod field;
 pub mod halving;
 pub mod order;
+pub mod product;
 pub mod residues;
 pub mod rules;
 pub mod tile;

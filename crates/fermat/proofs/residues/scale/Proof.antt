@@ -1,16 +1,17 @@
 -- `scale` replaces word after word by its multiple. It rests on the law of such passes.
+use mathlib.Core.Path.{_≡_}
 use Prim.Native.Nat.{ℕ, _-_, _*_, _%_, _<_, _≤_}
 use native.Mathlib.Nat.{mod-lt, mul-le-mul-left}
 use native.Mathlib.Omega.{arith}
 use borrow.Author.Needs.{needs}
 use lib.ListN.{length, getD}
 use Rattle.algebra.specs.CongruenceLaws.{c-refl, c-mul, c-mod}
-use Rattle.fermat.proofs.EachWord.{Passed, pass-none, pass-next, pass-all}
+use Rattle.fermat.proofs.EachWord.{Passed, pass-none, pass-next}
 use Rattle.fermat.proofs.residues.scale.Statement.{statement}
 use Rattle.fermat.proofs.residues.scale.Tie as tie
 
 abbrev Inv-loop : tie.InvT-loop
-Inv-loop words₀ s m i₀ words i = (i ≤ length words₀) × Passed (λ x. (s * x) % m) i words₀ words
+Inv-loop words₀ s m i₀ words i = (i ≤ length words₀) × Passed (λ _ a b. b ≡ (s * a) % m) i words₀ words
 
 abbrev μ-loop : tie.MeasureT-loop
 μ-loop words₀ s m i₀ words i = length words₀ - i
@@ -64,7 +65,7 @@ same-length : tie.Need-same-length Inv-loop μ-loop
 same-length c = search needs
 
 returns : tie.Need-returns Inv-loop μ-loop
-returns c = pass-all (omega arith) (c .before .loop .inv .1)
+returns c i l = c .before .loop .inv .1 .done i (omega arith)
 
 pub scale-spec : {M : Type 1} → statement M
 scale-spec =
