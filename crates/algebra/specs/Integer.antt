@@ -9,8 +9,9 @@ use native.Mathlib.Nat.{add-zero, add-comm}
 use native.Mathlib.Omega.{arith}
 use lib.IntN.{ℤ, pos, negsuc, negℤ, sucℤ, predℤ, _+ℤ_, _-ℤ_, _*ℤ_}
 use lib.IntN.{+ℤ-idl, +ℤ-idr, +ℤ-comm, +ℤ-invr, negℤ-+ℤ, negℤ-negℤ, negℤ-sucℤ}
-use lib.IntN.{sucℤ-+ℤ, +ℤ-predℤ, sucℤ-*ℤ, predℤ-*ℤ, zero-*ℤ}
-use Rattle.algebra.specs.SumLaws.{integers, plus-exchange}
+use lib.IntN.{sucℤ-+ℤ, +ℤ-predℤ, sucℤ-*ℤ, predℤ-*ℤ, zero-*ℤ, *ℤ-zero}
+use Rattle.algebra.specs.Sum.{sumZ}
+use Rattle.algebra.specs.SumLaws.{integers, plus-exchange, sum-map}
 
 -- a − b. It does not unfold, so that `simp` sees it.
 pub difference : ℕ → ℕ → ℤ
@@ -103,3 +104,10 @@ negℤ-*ℤ = every₂ (λ x y. negℤ x *ℤ y ≡ negℤ (x *ℤ y)) (λ a b c
 
 pub *ℤ-negℤ : (x y : ℤ) → x *ℤ negℤ y ≡ negℤ (x *ℤ y)
 *ℤ-negℤ = every₂ (λ x y. x *ℤ negℤ y ≡ negℤ (x *ℤ y)) (λ a b c d. simp ring (difference-eq _ _ _ _ (omega arith)))
+
+-- A factor goes before a sum, on either side.
+pub sumZ-mul : (n : ℕ) (z : ℤ) (f : ℕ → ℤ) → sumZ n (λ i. z *ℤ f i) ≡ z *ℤ sumZ n f
+sumZ-mul n z f = sum-map integers integers (λ x. z *ℤ x) (*ℤ-zero z) (*ℤ-+ℤ z) n f
+
+pub sumZ-mul-right : (n : ℕ) (f : ℕ → ℤ) (z : ℤ) → sumZ n (λ i. f i *ℤ z) ≡ sumZ n f *ℤ z
+sumZ-mul-right n f z = sum-map integers integers (λ x. x *ℤ z) (zero-*ℤ z) (λ x y. +ℤ-*ℤ x y z) n f

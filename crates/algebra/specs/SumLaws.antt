@@ -3,7 +3,7 @@
 use mathlib.Core.Path.{_≡_, refl, sym, ap, ap₂, _∙_}
 use mathlib.Core.Logic.{_≢_}
 use Prim.Native.Nat.{ℕ, zero, suc, _+_, _*_, _-_, _<_}
-use native.Mathlib.Nat.{zero-add, add-zero, add-suc, add-assoc, add-comm, mul-zero, mul-add, add-mul, zero-mul}
+use native.Mathlib.Nat.{zero-add, add-zero, add-suc, add-assoc, add-comm, mul-zero, mul-add, add-mul, zero-mul, suc-mul}
 use native.Mathlib.Decide.{ℕ-discrete}
 use native.Mathlib.Omega.{arith}
 use lib.IntN.{ℤ, pos, _+ℤ_, +ℤ-idl, +ℤ-assoc, +ℤ-comm}
@@ -109,6 +109,13 @@ module _ {A : Type 0} (S : Addition A) where
   sum-split a (suc b) f =
       ap (λ n. S .total n f) (add-suc a b) ∙ S .total-last (a + b) f ∙ ap (λ z. S .plus z (f (a + b))) (sum-split a b f)
       ∙ S .plus-assoc (S .total a f) (S .total b (λ i. f (a + i))) (f (a + b)) ∙ ap (S .plus (S .total a f)) (sym (S .total-last b (λ i. f (a + i))))
+
+  -- a sum over a rows of b is a sum over flat places
+  pub sum-flat : (a b : ℕ) (f : ℕ → A) → S .total a (λ i. S .total b (λ j. f (i * b + j))) ≡ S .total (a * b) f
+  sum-flat zero b f = S .total-none _ ∙ sym (ap (λ n. S .total n f) (zero-mul b) ∙ S .total-none f)
+  sum-flat (suc a) b f =
+      S .total-last a _ ∙ ap (λ z. S .plus z (S .total b (λ j. f (a * b + j)))) (sum-flat a b f)
+      ∙ sym (ap (λ n. S .total n f) (suc-mul a b) ∙ sum-split (a * b) b f)
 
   -- the first summand apart
   pub sum-first : (n : ℕ) (f : ℕ → A) → S .total (suc n) f ≡ S .plus (f 0) (S .total n (λ i. f (suc i)))

@@ -1,0 +1,67 @@
+-- The kernel by planes: plane p is the run of K² weights from p·K² on, it lies within the kernel, and the sum of the sizes over the run is the
+-- double sum over the plane's rows and columns. It rests on the laws of sums.
+use mathlib.Core.Path.{_≡_, sym, ap, _∙_}
+use mathlib.Core.Bool.{Bool, true, false, cond}
+use mathlib.Core.List.{List}
+use Prim.Native.Nat.{ℕ, _+_, _*_, _-_, _≤_, _<_}
+use native.Mathlib.Nat.{mul-le-mul-right, suc-mul, mul-comm}
+use native.Mathlib.Omega.{arith}
+use lib.IntN.{ℤ, pos, natAbs}
+use lib.ListN.{length, getD, take, drop, length-take, length-drop}
+use lib.Seq.{getD-take, getD-drop}
+use Rattle.algebra.specs.Sum.{sum}
+use Rattle.algebra.specs.SumLaws.{naturals, sum-cong}
+use Rattle.layer.specs.declared.shape.Layer.{Layer}
+use Rattle.layer.specs.Shape.{isConv}
+use Rattle.layer.specs.Direct.{cell}
+use Rattle.layer.specs.Load.{planeOf}
+use Rattle.layer.specs.Weights.{sizeSum}
+use Rattle.algebra.specs.SumLaws.{sum-flat}
+
+-- the sum of the sizes over plane p, as the load has it
+abbrev pub planeSize : (K : ℕ) → List ℤ → (p : ℕ) → ℕ
+planeSize K kernel p = sum K (λ a. sum K (λ b. natAbs (cell K K kernel p a b)))
+
+-- ---- the place of a plane
+
+-- row m of M rows of C, place c in it
+below : (m M c C : ℕ) → m < M → c < C → m * C + c < M * C
+below m M c C hm hc = omega (arith, mul-le-mul-right C hm, suc-mul m C)
+
+-- the planes that reach a channel are planes of the kernel
+pub plane-below : (l : Layer) (m c : ℕ) → m < l .outputs → c < l .inputs → planeOf l m c < l .outputs * l .inputs
+plane-below l m c hm hc = go (isConv l)
+  where
+    go : (t : Bool) → cond t (m * l .inputs + c) (c * l .outputs + m) < l .outputs * l .inputs
+    go true = below m (l .outputs) c (l .inputs) hm hc
+    go false = omega (arith, below c (l .inputs) m (l .outputs) hc hm, mul-comm (l .inputs) (l .outputs))
+
+-- plane p of n planes ends within them
+pub plane-ends : (p n area : ℕ) → p < n → p * area + area ≤ n * area
+plane-ends p n area h = omega (arith, mul-le-mul-right area h, suc-mul p area)
+
+-- ---- the sum over a plane
+
+-- n values from `from` on, as the code lends them
+abbrev pub part : List ℤ → (from n : ℕ) → List ℤ
+part values from n = take (from + n - from) (drop from values)
+
+module _ (values : List ℤ) (from n : ℕ) (fits : from + n ≤ length values) where
+  pub part-length : length (part values from n) ≡ n
+  part-length = simp (length-take, length-drop) (omega arith)
+
+  part-size : sizeSum (part values from n) ≡ sum n (λ i. natAbs (getD values (from + i) (pos 0)))
+  unfolding sizeSum
+  part-size = ap (λ k. sum k (λ i. natAbs (getD (part values from n) i (pos 0)))) part-length ∙ sum-cong naturals n _ _ (λ i l. ap natAbs (same i l))
+    where
+      same : (i : ℕ) → i < n → getD (part values from n) i (pos 0) ≡ getD values (from + i) (pos 0)
+      same i l = getD-take (from + n - from) (drop from values) i (pos 0) (omega arith) ∙ getD-drop from values i (pos 0)
+
+pub plane-size : (K : ℕ) (kernel : List ℤ) (p : ℕ) → p * (K * K) + K * K ≤ length kernel
+    → sizeSum (part kernel (p * (K * K)) (K * K)) ≡ planeSize K kernel p
+plane-size K kernel p fits =
+    part-size kernel (p * (K * K)) (K * K) fits ∙ sym (sum-flat naturals K K (λ i. natAbs (getD kernel (p * (K * K) + i) (pos 0))))
+    ∙ sum-cong naturals K _ _ (λ a la. sum-cong naturals K _ _ (λ b lb. ap (λ i. natAbs (getD kernel i (pos 0))) (place a b)))
+  where
+    place : (a b : ℕ) → p * (K * K) + (a * K + b) ≡ (p * K + a) * K + b
+    place a b = omega arith

@@ -1,0 +1,87 @@
+-- `loads_fit` holds channel after channel against the limit: `fit` says it of the channels before m. It rests on the definition of `every`.
+use mathlib.Core.Path.{_≡_, refl, sym, _∙_}
+use mathlib.Core.Bool.{Bool, true, false, and-true, and-false}
+use mathlib.Core.List.{List}
+use mathlib.Core.Logic.{⊎-elim}
+use Prim.Native.Nat.{ℕ, _+_, _-_, _≤_}
+use native.Mathlib.Numerals.{add-one}
+use native.Mathlib.Omega.{arith}
+use borrow.Author.Needs.{needs}
+use borrow.Author.Tests.{le-leb, lt-leb}
+use lib.Dec.{leb}
+use lib.IntN.{ℤ}
+use Rattle.layer.specs.declared.shape.Layer.{Layer}
+use Rattle.layer.specs.Load.{load, loadLimit, every, loadsFit}
+use Rattle.layer.proofs.load.loads_fit.Statement.{statement}
+use Rattle.layer.proofs.load.loads_fit.Tie as tie
+
+-- the load of channel m is within the limit
+abbrev within : Layer → List ℤ → (m : ℕ) → Bool
+within layer kernel m = leb (load layer kernel m) (loadLimit (layer .field))
+
+abbrev Inv-loop : tie.InvT-loop
+Inv-loop layer kernel limit fit₀ m₀ fit m = (m ≤ layer .outputs) × (fit ≡ every m (within layer kernel))
+
+abbrev μ-loop : tie.MeasureT-loop
+μ-loop layer kernel limit fit₀ m₀ fit m = layer .outputs - m
+
+-- one test more: it fails, or it changes nothing
+module _ (test : ℕ → Bool) (m : ℕ) where
+  every-fails : test m ≡ false → false ≡ every (m + 1) test
+  every-fails e = rw (add-one, e) (sym (and-false (every m test)))
+
+  every-holds : test m ≡ true → every m test ≡ every (m + 1) test
+  every-holds e = rw (add-one, e) (sym (and-true (every m test)))
+
+load-limit-requires : tie.Need-load-limit-requires Inv-loop μ-loop
+load-limit-requires c κs = search needs
+
+loop-holds : tie.Need-loop-holds Inv-loop μ-loop
+loop-holds c = (omega arith, refl)
+
+channel-load-requires : tie.Need-channel-load-requires Inv-loop μ-loop
+channel-load-requires c κs = search needs
+
+add-m : tie.Need-add-m Inv-loop μ-loop
+add-m c = search needs
+
+loop-less : tie.Need-loop-less Inv-loop μ-loop
+loop-less c = search needs
+
+-- what the branch makes of `fit`
+fit-next : (c : tie.Joined2 Inv-loop μ-loop)
+    → let at : tie.At-loop Inv-loop μ-loop = c .before .before .before .before in
+    c .if2 .fit ≡ every (at .loop .m + 1) (within (at .before .before .args .layer) (at .before .before .args .kernel .now))
+fit-next c =
+    let at = c .before .before .before .before in
+    let test = within (at .before .before .args .layer) (at .before .before .args .kernel .now) in
+    let l = c .before .channel-load .ensures in
+    let e = at .before .load-limit .ensures in
+    ⊎-elim
+    (λ w. w .1 ∙ every-fails test (at .loop .m) (lt-leb _ _ (rw (l, e) at (w .0 .taken))))
+    (λ w. w .1 ∙ at .loop .inv .1 ∙ every-holds test (at .loop .m) (le-leb _ _ (rw (l, e) at (w .0 .left))))
+    (c .if2 .came)
+
+loop-again : tie.Need-loop-again Inv-loop μ-loop
+loop-again c = (omega arith, fit-next c)
+
+returns : tie.Need-returns Inv-loop μ-loop
+unfolding loadsFit
+returns c =
+    let at = c .before .before in
+    let done : at .loop .m ≡ at .before .before .args .layer .outputs = omega arith in
+    rw (at .loop .inv .1, done)
+
+pub loads-fit-spec : {M : Type 1} → statement M
+loads-fit-spec =
+    tie.close
+    (tie.spec
+    Inv-loop
+    μ-loop
+    load-limit-requires
+    loop-holds
+    channel-load-requires
+    add-m
+    loop-less
+    loop-again
+    returns)

@@ -1,0 +1,66 @@
+-- `size` takes a value below 0 from 0 in 32 bits, where 32,768 fits. It rests on the law that a negative has the same size.
+use mathlib.Core.Path.{_≡_, subst}
+use mathlib.Core.Bool.{true, false}
+use Prim.Native.Nat.{zero, suc, _+_, _≤_, _<_}
+use native.Mathlib.Omega.{arith}
+use borrow.Author.Needs.{needs}
+use borrow.Author.Tests.{ltb-true}
+use lib.Dec.{T}
+use lib.IntN.{ℤ, pos, negsuc, negℤ, _-ℤ_, +ℤ-idl}
+use lib.Signed.{mag, ltZ, nonNeg}
+use mir.Facts.{toZ-ofZ, sfits-widen, fits-natAbs}
+use mir.Syntax.{w16, w32}
+use mir.Val.{SFits}
+use Rattle.algebra.specs.SizeLaws.{size-neg}
+use Rattle.layer.proofs.values.size.Statement.{statement}
+use Rattle.layer.proofs.values.size.Tie as tie
+
+zero-minus : (z : ℤ) → pos 0 -ℤ z ≡ negℤ z
+zero-minus z = +ℤ-idl (negℤ z)
+
+below-zero : (z : ℤ) → ltZ z (pos 0) ≡ true → T (nonNeg (negℤ z))
+below-zero (pos n) e = let l : n < 0 = ltb-true n 0 e in absurd (omega arith)
+below-zero (negsuc n) e = tt
+
+not-below : (z : ℤ) → ltZ z (pos 0) ≡ false → T (nonNeg z)
+not-below (pos n) e = tt
+not-below (negsuc n) e = subst T e tt
+
+mag-neg : (z : ℤ) → mag (negℤ z) ≤ mag z + 1
+mag-neg (pos zero) = omega arith
+mag-neg (pos (suc n)) = omega arith
+mag-neg (negsuc n) = omega arith
+
+-- the negative of a value of 16 bits fits 32 bits
+neg-fits : (z : ℤ) → SFits w16 z → SFits w32 (negℤ z)
+neg-fits z f = record { sfits = omega (arith, mag-neg z, f .sfits) }
+
+cast-wide : tie.Need-cast-wide
+cast-wide c = rw (toZ-ofZ (c .before .fits .v)) (sfits-widen tt (c .before .fits .v))
+
+sub-turned : tie.Need-sub-turned
+sub-turned c =
+    let f = c .before .fits .v in
+    rw (toZ-ofZ f, toZ-ofZ (sfits-widen {w = w16} {w′ = w32} tt f), zero-minus) (neg-fits _ f)
+
+cast-result : tie.Need-cast-result
+cast-result c =
+    let f = c .before .fits .v in
+    rw (toZ-ofZ f, toZ-ofZ (sfits-widen {w = w16} {w′ = w32} tt f), zero-minus, toZ-ofZ (neg-fits _ f))
+    (below-zero (c .before .args .v) (rw (toZ-ofZ f) at (c .if1 .taken)), fits-natAbs {w = w32} tt (neg-fits _ f))
+
+cast-result-2 : tie.Need-cast-result-2
+cast-result-2 c =
+    let f = c .before .fits .v in
+    rw (toZ-ofZ f) (not-below (c .before .args .v) (rw (toZ-ofZ f) at (c .if1 .left)), fits-natAbs {w = w16} tt f)
+
+returns : tie.Need-returns
+returns c =
+    let f = c .before .fits .v in
+    rw (toZ-ofZ f, toZ-ofZ (sfits-widen {w = w16} {w′ = w32} tt f), zero-minus, toZ-ofZ (neg-fits _ f)) (size-neg (c .before .args .v))
+
+returns-2 : tie.Need-returns-2
+returns-2 c = search needs
+
+pub size-spec : {M : Type 1} → statement M
+size-spec = tie.close (tie.spec cast-wide sub-turned cast-result cast-result-2 returns returns-2)

@@ -1,0 +1,82 @@
+-- 01, "Returned by number": the checks in table order. A check answers with the number of the first rule that is broken, or with 0.
+use mathlib.Core.Bool.{Bool, _&&_, cond}
+use mathlib.Core.List.{List, [], _∷_, _++_}
+use Prim.Native.Nat.{ℕ, zero, suc, _+_, _*_, _-_}
+use lib.Dec.{leb, eqb}
+use lib.IntN.{ℤ}
+use lib.ListN.{length}
+use Rattle.fermat.specs.Rules.{Rule, rule, firstBroken, inside}
+use Rattle.layer.specs.declared.shape.Layer.{Layer}
+use Rattle.layer.specs.declared.shape.Plan.{Plan}
+use Rattle.layer.specs.Shape.{isConv, tconvSize, fullHeight, fullWidth, transformLength, tileTotal}
+use Rattle.layer.specs.Load.{loadsFit, withinPeak}
+
+-- 8: in CONV, H + 2P is not below K; in TCONV, E is not below 1
+abbrev pub hasOutput : Layer → ℕ → Bool
+hasOutput l size = cond (isConv l) (leb (l .side) (size + 2 * l .padding)) (leb 1 (tconvSize size (l .side) (l .stride) (l .padding)))
+
+-- 9: some are kept, and the last one lies within the full output
+unfoldable pub cropFits : (first count full : ℕ) → Bool
+cropFits first count full = leb 1 count && leb (first + count) full
+
+abbrev pub shapeRules : Layer → List Rule
+shapeRules l =
+    rule 1 (inside 0 1 (l .kind))
+    ∷ rule 2 (inside 4 5 (l .field))
+    ∷ rule 3 (inside 1 64 (l .inputs))
+    ∷ rule 3 (inside 1 64 (l .outputs))
+    ∷ rule 4 (inside 1 512 (l .height))
+    ∷ rule 4 (inside 1 512 (l .width))
+    ∷ rule 5 (inside 1 11 (l .side))
+    ∷ rule 6 (inside 1 4 (l .stride))
+    ∷ rule 7 (leb (l .padding) (l .side - 1))
+    ∷ []
+
+abbrev pub outputRules : Layer → List Rule
+outputRules l =
+    rule 8 (hasOutput l (l .height))
+    ∷ rule 8 (hasOutput l (l .width))
+    ∷ rule 9 (cropFits (l .top) (l .rows) (fullHeight l))
+    ∷ rule 9 (cropFits (l .left) (l .columns) (fullWidth l))
+    ∷ []
+
+abbrev pub callRules : Layer → (map kernel : List ℤ) → (output scratch : ℕ) → List Rule
+callRules l map kernel output scratch =
+    rule 10 (eqb (length map) (l .inputs * l .height * l .width))
+    ∷ rule 11 (eqb (length kernel) (l .outputs * l .inputs * (l .side * l .side)))
+    ∷ rule 12 (eqb output (l .outputs * l .rows * l .columns))
+    ∷ rule 13 (leb (3 * (transformLength l * transformLength l)) scratch)
+    ∷ rule 14 (inside 1 32767 (l .peak))
+    ∷ rule 15 (withinPeak (l .peak) map)
+    ∷ rule 16 (loadsFit l kernel)
+    ∷ []
+
+abbrev pub jobRules : Layer → ℕ → List Rule
+jobRules l next = rule 17 (leb next (tileTotal l)) ∷ []
+
+-- the planner makes 1 to 9, a run 1 to 16, a job 1 to 17
+unfoldable pub planCode : Layer → ℕ
+planCode l = firstBroken (shapeRules l ++ outputRules l)
+
+unfoldable pub runCode : Layer → (map kernel : List ℤ) → (output scratch : ℕ) → ℕ
+runCode l map kernel output scratch = firstBroken (shapeRules l ++ outputRules l ++ callRules l map kernel output scratch)
+
+unfoldable pub jobCode : Layer → ℕ → (map kernel : List ℤ) → (output scratch : ℕ) → ℕ
+jobCode l next map kernel output scratch =
+    firstBroken (shapeRules l ++ outputRules l ++ callRules l map kernel output scratch ++ jobRules l next)
+
+-- ---- the plan
+
+-- the figures of a refusal are 0
+abbrev pub figures : (code : ℕ) → Layer → Plan
+figures zero l = record {
+  code = 0;
+  height = fullHeight l;
+  width = fullWidth l;
+  tiles = tileTotal l;
+  scratch = 3 * (transformLength l * transformLength l);
+}
+figures (suc code) l = record { code = suc code; height = 0; width = 0; tiles = 0; scratch = 0 }
+
+unfoldable pub planOf : Layer → Plan
+planOf l = figures (planCode l) l

@@ -1,0 +1,17 @@
+-- definitions, in the order of the request
+pub mod Shape
+pub mod Direct
+pub mod Load
+pub mod Weights
+pub mod Checks
+-- laws
+pub mod ShapeLaws
+pub mod ChecksLaws
+pub mod TileSizes
+pub mod TileLaws
+pub mod WindowLaws
+pub mod TripleSums
+pub mod ProductLaws
+pub mod Weighed
+pub mod LoadLaws
+pub mod Charts

@@ -1,0 +1,79 @@
+-- 01, "A layer" and "Field and tile": the sizes of a layer's output, and its tiles.
+use mathlib.Core.Bool.{Bool, cond}
+use Prim.Native.Nat.{ℕ, _+_, _*_, _-_, _/_, _%_}
+use lib.Dec.{eqb}
+use Rattle.fermat.specs.Field.{points}
+use Rattle.layer.specs.declared.shape.Layer.{Layer}
+
+-- kind 0 is CONV, 1 is TCONV
+abbrev pub isConv : Layer → Bool
+isConv l = eqb (l .kind) 0
+
+-- ---- the full output
+
+-- CONV: (H + 2P − K) / S, rounded down, plus 1
+unfoldable pub convSize : (size side stride padding : ℕ) → ℕ
+convSize size side stride padding = (size + 2 * padding - side) / stride + 1
+
+-- TCONV: (H − 1)S + K − 2P, 0 where that is negative
+unfoldable pub tconvSize : (size side stride padding : ℕ) → ℕ
+tconvSize size side stride padding = (size - 1) * stride + side - 2 * padding
+
+abbrev pub fullSize : Layer → ℕ → ℕ
+fullSize l size = cond (isConv l) (convSize size (l .side) (l .stride) (l .padding)) (tconvSize size (l .side) (l .stride) (l .padding))
+
+-- E and F
+abbrev pub fullHeight : Layer → ℕ
+fullHeight l = fullSize l (l .height)
+
+abbrev pub fullWidth : Layer → ℕ
+fullWidth l = fullSize l (l .width)
+
+-- ---- tiles
+
+-- N
+abbrev pub transformLength : Layer → ℕ
+transformLength l = points (l .field)
+
+-- L = N − K + 1: a tile holds L by L places of the stride-1 grid
+abbrev pub tileSide : Layer → ℕ
+tileSide l = transformLength l - l .side + 1
+
+-- the stride-1 grid rows from one wanted row to the next: S in CONV, 1 in TCONV
+abbrev pub gridStep : Layer → ℕ
+gridStep l = cond (isConv l) (l .stride) 1
+
+-- R and Q: `count` wanted rows or columns span (count − 1)S + 1 of the grid in CONV, count in TCONV
+abbrev pub span : Layer → ℕ → ℕ
+span l count = cond (isConv l) ((count - 1) * l .stride + 1) count
+
+-- ⌈n / side⌉
+unfoldable pub tilesAcross : (side n : ℕ) → ℕ
+tilesAcross side n = (n + side - 1) / side
+
+abbrev pub tileRows : Layer → ℕ
+tileRows l = tilesAcross (tileSide l) (span l (l .rows))
+
+abbrev pub tileColumns : Layer → ℕ
+tileColumns l = tilesAcross (tileSide l) (span l (l .columns))
+
+-- M × ⌈R/L⌉ × ⌈Q/L⌉
+unfoldable pub tileTotal : Layer → ℕ
+tileTotal l = l .outputs * tileRows l * tileColumns l
+
+-- ---- output places, channel by channel and row by row
+
+-- the channel, row and column of the flat output place p
+abbrev pub channelOf : Layer → ℕ → ℕ
+channelOf l p = p / (l .rows * l .columns)
+
+abbrev pub rowOf : Layer → ℕ → ℕ
+rowOf l p = p % (l .rows * l .columns) / l .columns
+
+abbrev pub columnOf : Layer → ℕ → ℕ
+columnOf l p = p % (l .rows * l .columns) % l .columns
+
+-- the tile that holds place p, by output channel, tile row, tile column, counted from the crop's first output
+unfoldable pub tileOf : Layer → ℕ → ℕ
+tileOf l p =
+    (channelOf l p * tileRows l + rowOf l p * gridStep l / tileSide l) * tileColumns l + columnOf l p * gridStep l / tileSide l

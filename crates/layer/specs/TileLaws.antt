@@ -1,0 +1,239 @@
+-- Laws of tiles: every output place lies in one tile below the total, which its square tells, and every tile below the total holds an
+-- output place. They rest on the definitions of Shape and on the sizes of a planned layer.
+use mathlib.Core.Path.{_≡_, refl, sym, ap, ap₂, _∙_, subst}
+use mathlib.Core.Bool.{Bool, true, false, cond}
+use Prim.Native.Nat.{ℕ, zero, suc, _+_, _*_, _-_, _/_, _%_, _<_, _≤_}
+use native.Mathlib.Nat.{div-lt-iff-lt-mul, div-add-mod', mod-lt, lt-div-mul-add, div-mul-le-self, mul-le-mul-right, suc-mul}
+use native.Mathlib.Omega.{arith}
+use lib.Arith.{digits-lt, digits-div, digits-mod}
+use Rattle.layer.specs.declared.shape.Layer.{Layer}
+use Rattle.layer.specs.ChecksLaws.{Planned}
+use Rattle.layer.specs.TileSizes.{tile-side-low}
+use Rattle.layer.specs.Shape.{isConv, tileSide, gridStep, span, tilesAcross, tileRows, tileColumns, tileTotal, channelOf, rowOf, columnOf, tileOf}
+
+-- ---- along one side: places `step` apart on a line of tiles of `side`
+
+-- the tiles cover the places of the line
+pub across-covers : (side n : ℕ) → 0 < side → n ≤ tilesAcross side n * side
+unfolding tilesAcross
+across-covers side n some = omega (arith, lt-div-mul-add {a = n + side - 1} {b = side} some)
+
+pub across-lt : (side n x : ℕ) → 0 < side → x < n → x / side < tilesAcross side n
+across-lt side n x some l = div-lt-iff-lt-mul some .1 (omega (arith, across-covers side n some))
+
+-- and each of them starts on the line
+pub across-starts : (side n t : ℕ) → 0 < side → t < tilesAcross side n → t * side < n
+unfolding tilesAcross
+across-starts side n t some l =
+    let least : suc t * side ≤ (n + side - 1) / side * side = mul-le-mul-right side l in
+    omega (arith, div-mul-le-self (n + side - 1) side, suc-mul t side)
+
+-- a quotient is known by the square that holds the dividend
+pub quotient-low : (side x t : ℕ) → x / side ≡ t → t * side ≤ x
+quotient-low side x t e = omega (arith, div-mul-le-self x side, ap (λ (k : ℕ). k * side) e)
+
+pub quotient-high : (side x t : ℕ) → 0 < side → x / side ≡ t → x < t * side + side
+quotient-high side x t some e = omega (arith, lt-div-mul-add {a = x} {b = side} some, ap (λ (k : ℕ). k * side) e)
+
+pub quotient-is : (side x t : ℕ) → t * side ≤ x → x < t * side + side → x / side ≡ t
+quotient-is side x t low high =
+    let e : x ≡ t * side + (x - t * side) = omega arith in
+    ap (λ (k : ℕ). k / side) e ∙ digits-div t (omega arith)
+
+-- the first of the places that lies in tile t: it exists where the tile is not shorter than the step
+pub record Held (side step count t : ℕ) : Type 0 where
+  pub place : ℕ
+  pub below : place < count
+  pub tile : place * step / side ≡ t
+
+pub held : (side step count t : ℕ) → 0 < step → step ≤ side → 0 < count → t < tilesAcross side ((count - 1) * step + 1) → Held side step count t
+held side step count t some wide wanted l =
+    let start : t * side < (count - 1) * step + 1 = across-starts side ((count - 1) * step + 1) t (omega arith) l in
+    let e : ℕ = (t * side + step - 1) / step in
+    let low : t * side + step - 1 < e * step + step = lt-div-mul-add {a = t * side + step - 1} {b = step} some in
+    let high : e * step ≤ t * side + step - 1 = div-mul-le-self (t * side + step - 1) step in
+    let last : e < count = div-lt-iff-lt-mul some .1 (omega (arith, split count step wanted)) in
+    record { place = e; below = last; tile = quotient-is side (e * step) t (omega arith) (omega arith) }
+  where
+    split : (count step : ℕ) → 0 < count → count * step ≡ (count - 1) * step + step
+    split zero step h = absurd (omega arith)
+    split (suc n) step h = let e : suc n - 1 ≡ n = omega arith in rw e (suc-mul n step)
+
+-- ---- on the output of a layer
+
+-- the facts of a planned layer that its tiles need
+pub record Tiled (l : Layer) : Type 0 where
+  pub rows : 0 < l .rows
+  pub columns : 0 < l .columns
+  pub step : 0 < gridStep l
+  pub wide : gridStep l ≤ tileSide l
+
+pub planned-tiled : (l : Layer) → Planned l → Tiled l
+planned-tiled l p = record {
+  rows = p .rows-low;
+  columns = p .columns-low;
+  step = steps .0;
+  wide = omega (arith, steps .1, tile-side-low l (p .shape));
+}
+  where
+    steps : (0 < gridStep l) × (gridStep l ≤ 4)
+    steps = go (isConv l)
+      where
+        go : (conv : Bool) → (0 < cond conv (l .stride) 1) × (cond conv (l .stride) 1 ≤ 4)
+        go true = (p .shape .stride-low, p .shape .stride-high)
+        go false = (omega arith, omega arith)
+
+-- the row and the column of tiles that tile t stands in, and its output channel
+abbrev pub tileChannel : Layer → ℕ → ℕ
+tileChannel l t = t / tileColumns l / tileRows l
+
+abbrev pub tileRow : Layer → ℕ → ℕ
+tileRow l t = t / tileColumns l % tileRows l
+
+abbrev pub tileColumn : Layer → ℕ → ℕ
+tileColumn l t = t % tileColumns l
+
+-- place p lies in the L by L square of tile t
+pub record InTile (l : Layer) (t p : ℕ) : Type 0 where
+  pub channel : channelOf l p ≡ tileChannel l t
+  pub row-low : tileRow l t * tileSide l ≤ rowOf l p * gridStep l
+  pub row-high : rowOf l p * gridStep l < tileRow l t * tileSide l + tileSide l
+  pub column-low : tileColumn l t * tileSide l ≤ columnOf l p * gridStep l
+  pub column-high : columnOf l p * gridStep l < tileColumn l t * tileSide l + tileSide l
+
+-- the rows that `count` wanted ones span
+span-is : (l : Layer) (count : ℕ) → 0 < count → span l count ≡ (count - 1) * gridStep l + 1
+span-is l count some = go (isConv l)
+  where
+    go : (conv : Bool) → cond conv ((count - 1) * l .stride + 1) count ≡ (count - 1) * cond conv (l .stride) 1 + 1
+    go true = refl
+    go false = omega arith
+
+module _ (l : Layer) (tiled : Tiled l) where
+  side-some : 0 < tileSide l
+  side-some = omega (arith, tiled .step, tiled .wide)
+
+  -- a wanted row or column lies in one of the tiles across
+  line-lt : (count e : ℕ) → e < count → e * gridStep l / tileSide l < tilesAcross (tileSide l) (span l count)
+  line-lt count e h = rw (span-is l count (omega arith)) (across-lt (tileSide l) _ _ side-some (omega (arith, mul-le-mul-right (gridStep l) (less count e h))))
+    where
+      less : (count e : ℕ) → e < count → e ≤ count - 1
+      less count e h = omega arith
+
+  plane : 0 < l .rows * l .columns
+  plane = above (l .rows) (l .columns) (tiled .rows) (tiled .columns)
+    where
+      above : (a b : ℕ) → 0 < a → 0 < b → 0 < a * b
+      above (suc a) (suc b) _ _ = omega arith
+      above zero b h _ = absurd (omega arith)
+      above (suc a) zero _ h = absurd (omega arith)
+
+  row-lt : (p : ℕ) → rowOf l p < l .rows
+  row-lt p = div-lt-iff-lt-mul (tiled .columns) .1 (mod-lt p plane)
+
+  column-lt : (p : ℕ) → columnOf l p < l .columns
+  column-lt p = mod-lt (p % (l .rows * l .columns)) (tiled .columns)
+
+  -- every output place lies in a tile below the total
+  pub tile-of-lt : (p : ℕ) → p < l .outputs * (l .rows * l .columns) → tileOf l p < tileTotal l
+  unfolding tileOf tileTotal
+  tile-of-lt p h =
+      digits-lt (digits-lt (div-lt-iff-lt-mul plane .1 h) (line-lt (l .rows) (rowOf l p) (row-lt p)))
+      (line-lt (l .columns) (columnOf l p) (column-lt p))
+
+  -- the square of that tile, and of no other, holds the place
+  pub to-tile : (t p : ℕ) → tileOf l p ≡ t → InTile l t p
+  unfolding tileOf
+  to-tile t p e = record {
+    channel = sym (digits-div (channelOf l p) row) ∙ sym (ap (λ (k : ℕ). k / tileRows l) rest);
+    row-low = quotient-low (tileSide l) _ _ down;
+    row-high = quotient-high (tileSide l) _ _ side-some down;
+    column-low = quotient-low (tileSide l) _ _ across;
+    column-high = quotient-high (tileSide l) _ _ side-some across;
+  }
+    where
+      row : rowOf l p * gridStep l / tileSide l < tileRows l
+      row = line-lt (l .rows) (rowOf l p) (row-lt p)
+
+      column : columnOf l p * gridStep l / tileSide l < tileColumns l
+      column = line-lt (l .columns) (columnOf l p) (column-lt p)
+
+      rest : t / tileColumns l ≡ channelOf l p * tileRows l + rowOf l p * gridStep l / tileSide l
+      rest = ap (λ (k : ℕ). k / tileColumns l) (sym e) ∙ digits-div _ column
+
+      down : rowOf l p * gridStep l / tileSide l ≡ tileRow l t
+      down = sym (digits-mod (channelOf l p) row) ∙ sym (ap (λ (k : ℕ). k % tileRows l) rest)
+
+      across : columnOf l p * gridStep l / tileSide l ≡ tileColumn l t
+      across = sym (digits-mod _ column) ∙ ap (λ (k : ℕ). k % tileColumns l) e
+
+-- the index of a tile from its channel, row and column
+whole : (l : Layer) (t : ℕ) → (tileChannel l t * tileRows l + tileRow l t) * tileColumns l + tileColumn l t ≡ t
+whole l t =
+    ap (λ (k : ℕ). k * tileColumns l + tileColumn l t) (div-add-mod' (t / tileColumns l) (tileRows l)) ∙ div-add-mod' t (tileColumns l)
+
+pub from-tile : (l : Layer) (t p : ℕ) → InTile l t p → tileOf l p ≡ t
+unfolding tileOf
+from-tile l t p in-tile =
+    ap (λ (k : ℕ). (channelOf l p * tileRows l + k) * tileColumns l + columnOf l p * gridStep l / tileSide l)
+    (quotient-is (tileSide l) _ _ (in-tile .row-low) (in-tile .row-high))
+    ∙ ap (λ (k : ℕ). (channelOf l p * tileRows l + tileRow l t) * tileColumns l + k)
+    (quotient-is (tileSide l) _ _ (in-tile .column-low) (in-tile .column-high))
+    ∙ ap (λ (k : ℕ). (k * tileRows l + tileRow l t) * tileColumns l + tileColumn l t) (in-tile .channel)
+    ∙ whole l t
+
+-- ---- every tile below the total holds a place
+
+pub record Place (l : Layer) (t : ℕ) : Type 0 where
+  pub place : ℕ
+  pub below : place < l .outputs * (l .rows * l .columns)
+  pub tile : tileOf l place ≡ t
+
+-- a wanted row or column in tile t of a line of tiles
+line-held : (l : Layer) → Tiled l → (count t : ℕ) → 0 < count → t < tilesAcross (tileSide l) (span l count)
+    → Held (tileSide l) (gridStep l) count t
+line-held l tiled count t some h =
+    held (tileSide l) (gridStep l) count t (tiled .step) (tiled .wide) some
+    (subst (λ (n : ℕ). t < tilesAcross (tileSide l) n) (span-is l count some) h)
+
+line-some : (l : Layer) → Tiled l → (count : ℕ) → 0 < count → 0 < tilesAcross (tileSide l) (span l count)
+line-some l tiled count some = omega (arith, line-lt l tiled count 0 some)
+
+pub tile-held : (l : Layer) → Tiled l → (t : ℕ) → t < tileTotal l → Place l t
+unfolding tileTotal tileOf
+tile-held l tiled t h = record {
+  place = place;
+  below = digits-lt channel inner;
+  tile =
+      ap (λ (k : ℕ). (k * tileRows l + rowOf l place * gridStep l / tileSide l) * tileColumns l + columnOf l place * gridStep l / tileSide l)
+      (digits-div (tileChannel l t) inner)
+      ∙ ap (λ (k : ℕ). (tileChannel l t * tileRows l + k / l .columns * gridStep l / tileSide l) * tileColumns l + k % l .columns * gridStep l / tileSide l) plane
+      ∙ ap₂ (λ (e f : ℕ). (tileChannel l t * tileRows l + e * gridStep l / tileSide l) * tileColumns l + f * gridStep l / tileSide l)
+      (digits-div (row .place) (column .below)) (digits-mod (row .place) (column .below))
+      ∙ ap₂ (λ (e f : ℕ). (tileChannel l t * tileRows l + e) * tileColumns l + f) (row .tile) (column .tile)
+      ∙ whole l t;
+}
+  where
+    rows-some : 0 < tileRows l
+    rows-some = line-some l tiled (l .rows) (tiled .rows)
+
+    columns-some : 0 < tileColumns l
+    columns-some = line-some l tiled (l .columns) (tiled .columns)
+
+    channel : tileChannel l t < l .outputs
+    channel = div-lt-iff-lt-mul rows-some .1 (div-lt-iff-lt-mul columns-some .1 h)
+
+    row : Held (tileSide l) (gridStep l) (l .rows) (tileRow l t)
+    row = line-held l tiled (l .rows) (tileRow l t) (tiled .rows) (mod-lt (t / tileColumns l) rows-some)
+
+    column : Held (tileSide l) (gridStep l) (l .columns) (tileColumn l t)
+    column = line-held l tiled (l .columns) (tileColumn l t) (tiled .columns) (mod-lt t columns-some)
+
+    inner : row .place * l .columns + column .place < l .rows * l .columns
+    inner = digits-lt (row .below) (column .below)
+
+    place : ℕ
+    place = tileChannel l t * (l .rows * l .columns) + (row .place * l .columns + column .place)
+
+    plane : place % (l .rows * l .columns) ≡ row .place * l .columns + column .place
+    plane = digits-mod (tileChannel l t) inner

@@ -1,0 +1,80 @@
+// The sizes of a layer's full output and of its tiles. What they ask is what the rules 1 to 9 give.
+use crate::shape::Layer;
+use fermat::field;
+ghost use mathlib.Core.Path.{_≡_};
+ghost use Prim.Native.Nat.{_+_, _*_, _^_, _≤_, _<_};
+ghost use Rattle.layer.specs.Shape.{fullSize, transformLength, tileSide, gridStep, span, tilesAcross, tileTotal};
+ghost use Rattle.layer.specs.ChecksLaws.{InRange, Outputs, Planned};
+ghost use Rattle.layer.specs.TileSizes.{Wanted};
+
+// E of a map's height, F of its width.
+pub fn full_size(layer: Layer, size: usize) -> usize
+    requires { ⌜ Outputs layer size ⌝ }
+    ensures { λ r. ⌜ r ≡ fullSize layer size ⌝ }
+{
+    if layer.kind == 0 {
+        (size + 2 * layer.padding - layer.side) / layer.stride + 1
+    } else {
+        (size - 1) * layer.stride + layer.side - 2 * layer.padding
+    }
+}
+
+// 3N².
+pub fn scratch_words(layer: Layer) -> usize
+    requires { ⌜ InRange layer ⌝ }
+    ensures { λ r. ⌜ r ≡ 3 * (transformLength layer * transformLength layer) ⌝ }
+{
+    let n = field::points_of(layer.field);
+    3 * (n * n)
+}
+
+// L.
+pub fn tile_side(layer: Layer) -> usize
+    requires { ⌜ InRange layer ⌝ }
+    ensures { λ r. ⌜ r ≡ tileSide layer ⌝ }
+{
+    field::points_of(layer.field) - layer.side + 1
+}
+
+// The stride-1 grid rows from one wanted row to the next.
+pub fn grid_step(layer: Layer) -> usize
+    ensures { λ r. ⌜ r ≡ gridStep layer ⌝ }
+{
+    if layer.kind == 0 { layer.stride } else { 1 }
+}
+
+// R of the rows kept, Q of the columns kept.
+pub fn span_of(layer: Layer, count: usize) -> usize
+    requires { ⌜ Wanted layer count ⌝ }
+    ensures { λ r. ⌜ r ≡ span layer count ⌝ }
+{
+    if layer.kind == 0 {
+        (count - 1) * layer.stride + 1
+    } else {
+        count
+    }
+}
+
+// ⌈n / side⌉.
+pub fn tiles_across(side: usize, n: usize) -> usize
+    requires { ⌜ (1 ≤ side) × (n + side < 2 ^ 64) ⌝ }
+    ensures { λ r. ⌜ r ≡ tilesAcross side n ⌝ }
+{
+    (n + side - 1) / side
+}
+
+// Tile rows of the rows kept, tile columns of the columns kept.
+pub fn tiles_along(layer: Layer, count: usize) -> usize
+    requires { ⌜ Wanted layer count ⌝ }
+    ensures { λ r. ⌜ r ≡ tilesAcross (tileSide layer) (span layer count) ⌝ }
+{
+    tiles_across(tile_side(layer), span_of(layer, count))
+}
+
+// M × ⌈R/L⌉ × ⌈Q/L⌉.
+pub fn tile_total(layer: Layer) -> usize
+    requires { ⌜ Planned layer ⌝ }
+    ensures { λ r. ⌜ r ≡ tileTotal layer ⌝ }
+{
+    layer.outputs * tiles_along(layer, layer.rows) * tiles_along(layer, layer.columns)
+}
