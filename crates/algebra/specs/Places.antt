@@ -18,3 +18,9 @@ pub record Written {A : Type 0} (d : A) (P : ℕ → Type 0) (value : ℕ → A)
 -- the count places from `at` on
 abbrev pub Run : ℕ → ℕ → ℕ → Type 0
 Run at count p = (at ≤ p) × (p < at + count)
+
+-- ys is xs but for the places from `from` up to `to`
+pub record Changed {A : Type 0} (d : A) (from to : ℕ) (xs ys : List A) : Type 0 where
+  pub size : length ys ≡ length xs
+  pub before : (p : ℕ) → p < from → getD ys p d ≡ getD xs p d
+  pub after : (p : ℕ) → to ≤ p → getD ys p d ≡ getD xs p d

@@ -8,7 +8,7 @@ use native.Mathlib.Omega.{arith}
 use lib.ListN.{length, getD, set, length-set, length-append, take, drop, length-drop, List·getD-append}
 use lib.Seq.{ext-getD, getD-set-same, getD-set-other, length-take-le, getD-append-add, getD-take, getD-drop}
 use borrow.Rule.Slice.PartMut.{midOf, putMid, same-len-mid}
-use Rattle.algebra.specs.Places.{table, Written, Run}
+use Rattle.algebra.specs.Places.{table, Written, Run, Changed}
 
 module _ {A : Type 0} where
   pub length-table : (n : ℕ) (f : ℕ → A) → length (table n f) ≡ n
@@ -31,6 +31,32 @@ module _ {A : Type 0} where
   pub table-of : (d : A) (n : ℕ) (f : ℕ → A) (xs : List A) → length xs ≡ n → ((i : ℕ) → i < n → getD xs i d ≡ f i) → xs ≡ table n f
   table-of d n f xs e h =
       ext-getD d xs (table n f) (e ∙ sym (length-table n f)) (λ i l. h i (omega arith) ∙ sym (getD-table d n f i (omega arith)))
+
+-- a part of a list that was lent and came back
+module _ {A : Type 0} (d : A) (xs ys : List A) (a k : ℕ) (le : a + k ≤ length xs) (len : length ys ≡ k) where
+  front : length (take a xs) ≡ a
+  front = length-take-le a xs (omega arith)
+
+  pub getD-put-mid : (i : ℕ) → i < k → getD (putMid a k xs ys) (a + i) d ≡ getD ys i d
+  getD-put-mid i l =
+      let e : a + i ≡ length (take a xs) + i = omega (arith, front) in
+      ap (λ (p : ℕ). getD (putMid a k xs ys) p d) e
+      ∙ getD-append-add (take a xs) (ys ++ drop k (drop a xs)) i d
+      ∙ List·getD-append ys (drop k (drop a xs)) d i (omega arith)
+
+  -- the places before it and after it are as they were
+  pub getD-put-mid-before : (p : ℕ) → p < a → getD (putMid a k xs ys) p d ≡ getD xs p d
+  getD-put-mid-before p l = List·getD-append (take a xs) (ys ++ drop k (drop a xs)) d p (omega (arith, front)) ∙ getD-take a xs p d l
+
+  pub getD-put-mid-after : (p : ℕ) → a + k ≤ p → getD (putMid a k xs ys) p d ≡ getD xs p d
+  getD-put-mid-after p l =
+      let s : ℕ = p - (a + k) in
+      let e : p ≡ length (take a xs) + (length ys + s) = omega (arith, front) in
+      let b : a + (k + s) ≡ p = omega arith in
+      ap (λ (i : ℕ). getD (putMid a k xs ys) i d) e
+      ∙ getD-append-add (take a xs) (ys ++ drop k (drop a xs)) (length ys + s) d
+      ∙ getD-append-add ys (drop k (drop a xs)) s d
+      ∙ getD-drop k (drop a xs) s d ∙ getD-drop a xs (k + s) d ∙ ap (λ (i : ℕ). getD xs i d) b
 
 module _ {A : Type 0} {d : A} where
   -- no place is written
@@ -88,30 +114,42 @@ module _ {A : Type 0} {d : A} where
       part : length (midOf a k xs) ≡ k
       part = length-take-le k (drop a xs) (omega (arith, length-drop a xs))
 
-      front : length (take a xs) ≡ a
-      front = length-take-le a xs (omega arith)
-
       len : length ys ≡ k
       len = w .size ∙ part
 
       inner : (p : ℕ) → Run a k p → getD (putMid a k xs ys) p d ≡ getD ys (p - a) d
       inner p h =
-          let e : p ≡ length (take a xs) + (p - a) = omega (arith, front) in
-          ap (λ (i : ℕ). getD (putMid a k xs ys) i d) e
-          ∙ getD-append-add (take a xs) (ys ++ drop k (drop a xs)) (p - a) d
-          ∙ List·getD-append ys (drop k (drop a xs)) d (p - a) (omega (arith, len))
+          let e : p ≡ a + (p - a) = omega arith in
+          ap (λ (i : ℕ). getD (putMid a k xs ys) i d) e ∙ getD-put-mid d xs ys a k le len (p - a) (omega arith)
 
       go : (p : ℕ) → ((Run a k p) × P (p - a) → ⊥) → Dec (p < a) → Dec (p < a + k) → getD (putMid a k xs ys) p d ≡ getD xs p d
-      go p out (yes h) _ = List·getD-append (take a xs) (ys ++ drop k (drop a xs)) d p (omega (arith, front)) ∙ getD-take a xs p d h
       go p out (no h) (yes l) =
           let e : a + (p - a) ≡ p = omega arith in
           inner p (omega arith, l) ∙ w .kept (p - a) (λ x. out ((omega arith, l), x))
           ∙ getD-take k (drop a xs) (p - a) d (omega arith) ∙ getD-drop a xs (p - a) d ∙ ap (λ (i : ℕ). getD xs i d) e
-      go p out (no h) (no l) =
-          let s : ℕ = p - (a + k) in
-          let e : p ≡ length (take a xs) + (length ys + s) = omega (arith, front, len) in
-          let b : a + (k + s) ≡ p = omega arith in
-          ap (λ (i : ℕ). getD (putMid a k xs ys) i d) e
-          ∙ getD-append-add (take a xs) (ys ++ drop k (drop a xs)) (length ys + s) d
-          ∙ getD-append-add ys (drop k (drop a xs)) s d
-          ∙ getD-drop k (drop a xs) s d ∙ getD-drop a xs (k + s) d ∙ ap (λ (i : ℕ). getD xs i d) b
+      go p out (yes h) _ = getD-put-mid-before d xs ys a k le len p h
+      go p out (no h) (no l) = getD-put-mid-after d xs ys a k le len p (omega arith)
+
+-- ---- changes between two places
+
+module _ {A : Type 0} {d : A} where
+  -- a part that was lent and came back
+  pub changed-part : (xs ys : List A) (a k : ℕ) → a + k ≤ length xs → length ys ≡ k → Changed d a (a + k) xs (putMid a k xs ys)
+  changed-part xs ys a k le len = record {
+    size = same-len-mid a k xs ys (len ∙ sym (length-take-le k (drop a xs) (omega (arith, length-drop a xs))));
+    before = getD-put-mid-before d xs ys a k le len;
+    after = getD-put-mid-after d xs ys a k le len;
+  }
+
+  -- a write
+  pub changed-written : {v : ℕ → A} {xs ys : List A} (at count : ℕ) → Written d (Run at count) v xs ys → Changed d at (at + count) xs ys
+  changed-written at count w = record { size = w .size; before = λ p l. w .kept p (λ h. omega arith); after = λ p l. w .kept p (λ h. omega arith) }
+
+  -- two changes in a row
+  pub changed-again : {xs ys zs : List A} {a b c e : ℕ} (from to : ℕ) → from ≤ a → from ≤ c → b ≤ to → e ≤ to
+      → Changed d a b xs ys → Changed d c e ys zs → Changed d from to xs zs
+  changed-again from to la lc lb le one two = record {
+    size = two .size ∙ one .size;
+    before = λ p l. two .before p (omega arith) ∙ one .before p (omega arith);
+    after = λ p l. two .after p (omega arith) ∙ one .after p (omega arith);
+  }

@@ -124,6 +124,14 @@ module _ {A : Type 0} (S : Addition A) where
       S .total-last (suc n) f ∙ ap (λ z. S .plus z (f (suc n))) (sum-first n f)
       ∙ S .plus-assoc (f 0) (S .total n (λ i. f (suc i))) (f (suc n)) ∙ ap (S .plus (f 0)) (sym (S .total-last n (λ i. f (suc i))))
 
+  -- a sum from its last summand back
+  pub sum-reverse : (n : ℕ) (f : ℕ → A) → S .total n f ≡ S .total n (λ i. f (n - 1 - i))
+  sum-reverse zero f = S .total-none f ∙ sym (S .total-none _)
+  sum-reverse (suc n) f =
+      S .total-last n f ∙ S .plus-comm (S .total n f) (f n)
+      ∙ ap₂ (S .plus) (ap f (omega arith)) (sum-reverse n f ∙ sum-cong n _ _ (λ i l. ap f (omega arith)))
+      ∙ sym (sum-first n (λ i. f (suc n - 1 - i)))
+
   -- a sum over the even and the odd places
   pub sum-even-odd : (n : ℕ) (f : ℕ → A) → S .total (2 * n) f ≡ S .plus (S .total n (λ i. f (2 * i))) (S .total n (λ i. f (2 * i + 1)))
   sum-even-odd zero f = S .total-none f ∙ sym (ap₂ (S .plus) (S .total-none _) (S .total-none _) ∙ S .plus-none (S .none))

@@ -6,8 +6,11 @@ mod Levels
 mod Exchange
 mod Recursion
 mod Tiles
+mod Widening
+mod Corners
 mod EachWord
 mod Sizes
 mod Rows
 mod Products
 mod Finish
+mod Recovery

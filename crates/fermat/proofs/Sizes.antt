@@ -1,7 +1,7 @@
--- The sizes of the fields up to F_5: the machine's words hold their numbers, and a row of N words meets what the transforms by halving ask.
-use mathlib.Core.Path.{_≡_, ap, _∙_}
+-- The sizes of the fields up to F_5: the machine's words hold their numbers, and a row or a tile meets what the transforms ask.
+use mathlib.Core.Path.{_≡_, refl, ap, _∙_}
 use Prim.Native.Nat.{ℕ, zero, suc, _+_, _-_, _*_, _/_, _%_, _^_, _<_, _≤_}
-use native.Mathlib.Nat.{mul-le-mul-left, two-pow-succ}
+use native.Mathlib.Nat.{mul-le-mul, mul-le-mul-left, two-pow-succ}
 use native.Mathlib.Numerals.{add-one}
 use native.Mathlib.Omega.{arith}
 use lib.Pow.{pow-pos, pow-mono}
@@ -9,7 +9,9 @@ use Rattle.fermat.specs.Field.{modulus, points, scale}
 use Rattle.fermat.specs.FieldLaws.{exponent-lt}
 use Rattle.fermat.specs.Butterfly.{Bound}
 use Rattle.fermat.specs.Halving.{Grid}
-use Rattle.fermat.proofs.Words.{one-shl}
+use Rattle.fermat.specs.Tile.{Square}
+use Rattle.fermat.specs.Product.{settledMost}
+use Rattle.fermat.proofs.Words.{one-shl, bound-times}
 
 -- a power of 2 by the machine's shift, the exponent by another name
 pub shifted : {s e : ℕ} → s ≡ e → e ≤ 32 → (1 * 2 ^ s) % 2 ^ 64 ≡ 2 ^ e
@@ -47,6 +49,25 @@ module _ (t : ℕ) (high : t ≤ 5) where
       let most : 2 * modulus t * 2 ^ (t + 1) ≤ 2 * modulus t * 64 = mul-le-mul-left (2 * modulus t) (pow-mono {i = t + 1} {j = 6} (omega arith)) in
       record {
         whole = omega arith;
+        levels = omega arith;
+        period = rw add-one (omega (arith, two-pow-succ t));
+        room = omega (arith, power-high);
+      }
+
+  -- a tile that is brought down meets what the inverse asks
+  pub tile-bound : Bound (2 ^ t) (settledMost t)
+  tile-bound =
+      let e : settledMost t ≡ 2 * modulus t * 2 = omega arith in
+      rw e (bound-times row-bound 2 (omega arith) (omega (arith, power-high)))
+
+  pub tile-square : {s c : ℕ} → s ≡ points t * points t → c ≤ settledMost t → Square s (points t) (t + 1) (2 ^ t) c
+  tile-square {c = c} e most =
+      let side : points t ≤ 64 = pow-mono {i = t + 1} {j = 6} (omega arith) in
+      let once : c * points t ≤ settledMost t * 64 = mul-le-mul most side in
+      let twice : c * points t * points t ≤ settledMost t * 64 * 64 = mul-le-mul once side in
+      record {
+        whole = e;
+        side = refl;
         levels = omega arith;
         period = rw add-one (omega (arith, two-pow-succ t));
         room = omega (arith, power-high);

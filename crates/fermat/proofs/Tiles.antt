@@ -1,11 +1,12 @@
 -- The two passes over a tile: what they make together, the sizes of each, and the bound across a transposition.
 use mathlib.Core.Path.{_≡_, refl, sym, ap, _∙_}
 use mathlib.Core.List.{List}
-use Prim.Native.Nat.{ℕ, _*_, _%_, _^_, _<_, _≤_}
-use native.Mathlib.Nat.{one-mul, mul-one, mod-eq-of-lt, mul-le-mul-left}
+use Prim.Native.Nat.{ℕ, _+_, _*_, _%_, _^_, _<_, _≤_}
+use native.Mathlib.Nat.{zero-add, one-mul, mul-one, mod-eq-of-lt, mul-le-mul-left}
 use native.Mathlib.Omega.{arith}
-use lib.ListN.{length}
+use lib.ListN.{length, getD}
 use lib.Pow.{pow-pos}
+use Rattle.algebra.specs.Congruence.{Cong}
 use Rattle.algebra.specs.CongruenceLaws.{c-eq, _⨟_, c-via}
 use Rattle.fermat.specs.Transform.{powerSum, powerSum2}
 use Rattle.fermat.specs.Order.{reversed, across, Permuted}
@@ -16,16 +17,24 @@ use Rattle.fermat.specs.TransformLaws.{c-power-sum, power-sum-swap}
 use Rattle.fermat.specs.OrderLaws.{reversed-lt, across-lt, transposed, permuted-most}
 use Rattle.fermat.proofs.Words.{bound-times}
 
-module _ (m w l n : ℕ) (xs ys ts zs : List ℕ) (side : n ≡ 2 ^ l) (size : length ys ≡ n * n) (turned : Permuted (across n) ys ts) where
-  pub tile-forward : Forward m w l n xs ys → Forward m w l n ts zs → TileForward m w l n xs zs
-  unfolding powerSum2
-  tile-forward columns rows k i lk li =
-      let column : reversed l k < n = omega (arith, reversed-lt l k lk) in
-      rows i (reversed l k) li column
+-- the pass over the rows, where column k in bit-reversed order holds the transforms of the columns of x at k
+pub second-pass : (m w l n : ℕ) (x : ℕ → ℕ → ℕ) (ts zs : List ℕ) → n ≡ 2 ^ l → Forward m w l n ts zs
+    → ((k j : ℕ) → k < 2 ^ l → j < n → Cong m (word n j (reversed l k) ts) (powerSum (2 ^ l) w (λ r. x r j) k)) → TileForward m w l n x 0 zs
+unfolding powerSum2
+second-pass m w l n x ts zs side rows columns = record {
+  entries = λ k i lk li.
+      c-eq (ap (λ (p : ℕ). getD zs p 0) (zero-add (reversed l i * n + reversed l k)))
+      ⨟ rows i (reversed l k) li (omega (arith, reversed-lt l k lk))
       ⨟ c-via refl
-      (c-power-sum (2 ^ l) w (λ j. word n j (reversed l k) ts) (λ j. powerSum (2 ^ l) w (λ r. word n r j xs) k) i
-      (λ j lj. let lj' : j < n = omega arith in c-eq (transposed ys ts turned size j (reversed l k) lj' column) ⨟ columns k j lk lj'))
-      (power-sum-swap (2 ^ l) w w (λ r j. word n r j xs) k i)
+      (c-power-sum (2 ^ l) w (λ j. word n j (reversed l k) ts) (λ j. powerSum (2 ^ l) w (λ r. x r j) k) i (λ j lj. columns k j lk (omega arith)))
+      (power-sum-swap (2 ^ l) w w x k i);
+}
+
+module _ (m w l n : ℕ) (xs ys ts zs : List ℕ) (side : n ≡ 2 ^ l) (size : length ys ≡ n * n) (turned : Permuted (across n) ys ts) where
+  pub tile-forward : Forward m w l n xs ys → Forward m w l n ts zs → TileForward m w l n (λ r j. word n r j xs) 0 zs
+  tile-forward columns rows =
+      second-pass m w l n (λ r j. word n r j xs) ts zs side rows
+      (λ k j lk lj. c-eq (transposed ys ts turned size j (reversed l k) lj (omega (arith, reversed-lt l k lk))) ⨟ columns k j lk lj)
 
   pub tile-inverse : Inverse m w l n xs ys → Inverse m w l n ts zs → TileInverse m w l n xs zs
   unfolding powerSum2

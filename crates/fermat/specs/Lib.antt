@@ -5,6 +5,7 @@ pub mod Order
 pub mod Butterfly
 pub mod Halving
 pub mod Tile
+pub mod Corner
 pub mod Product
 pub mod Rules
 pub mod Answer
@@ -15,6 +16,7 @@ pub mod ConvolutionLaws
 pub mod HalvingLaws
 pub mod FieldLaws
 pub mod OrderLaws
+pub mod SpectrumLaws
 pub mod RulesLaws
 pub mod AnswerLaws
 pub mod PairLaws

@@ -1,11 +1,11 @@
 -- Laws of the transform: it respects congruence, sums and factors, and each of the transform and its inverse undoes the other.
 -- The laws on sums that are not reduced are congruences; those on residues are equations.
 use mathlib.Core.Path.{_≡_, refl, sym, ap, _∙_}
-use Prim.Native.Nat.{ℕ, suc, _*_, _^_, _<_}
-use native.Mathlib.Nat.{mul-comm, mod-eq-of-lt}
+use Prim.Native.Nat.{ℕ, suc, _+_, _*_, _^_, _<_}
+use native.Mathlib.Nat.{mul-comm, mod-eq-of-lt, add-mul, zero-mul}
 use native.Mathlib.Omega.{arith}
 use Rattle.algebra.specs.Sum.{sum}
-use Rattle.algebra.specs.SumLaws.{naturals, sum-cong, sum-mul, sum-mul-right, sum-swap}
+use Rattle.algebra.specs.SumLaws.{naturals, sum-cong, sum-zero, sum-add, sum-mul, sum-mul-right, sum-swap}
 use Rattle.algebra.specs.Congruence.{Cong}
 use Rattle.algebra.specs.CongruenceLaws.{c-refl, _⨟_, c-via, c-mul, c-sum, c-mod, c-single}
 use Rattle.fermat.specs.Transform.{powerSum, powerSum2, transformAt, inverseAt}
@@ -24,6 +24,26 @@ c-power-sum2 n w x y k l h = c-power-sum n w _ _ k (λ i p. c-power-sum n w _ _ 
 pub power-sum-scale : (n w c : ℕ) (x : ℕ → ℕ) (k : ℕ) → powerSum n w (λ j. c * x j) k ≡ c * powerSum n w x k
 unfolding powerSum
 power-sum-scale n w c x k = sum-cong naturals n _ _ (λ j l. omega arith) ∙ sum-mul n c (λ j. x j * w ^ (j * k))
+
+pub power-sum-add : (n w : ℕ) (x y : ℕ → ℕ) (k : ℕ) → powerSum n w (λ j. x j + y j) k ≡ powerSum n w x k + powerSum n w y k
+unfolding powerSum
+power-sum-add n w x y k =
+    sum-cong naturals n _ _ (λ j l. add-mul (x j) (y j) (w ^ (j * k))) ∙ sum-add naturals n (λ j. x j * w ^ (j * k)) (λ j. y j * w ^ (j * k))
+
+pub power-sum2-add : (n w : ℕ) (x y : ℕ → ℕ → ℕ) (k l : ℕ)
+    → powerSum2 n w (λ i j. x i j + y i j) k l ≡ powerSum2 n w x k l + powerSum2 n w y k l
+unfolding powerSum2 powerSum
+power-sum2-add n w x y k l =
+    sum-cong naturals n _ _ (λ i p. ap (λ (z : ℕ). z * w ^ (i * k)) (power-sum-add n w (x i) (y i) l))
+    ∙ power-sum-add n w (λ i. powerSum n w (x i) l) (λ i. powerSum n w (y i) l) k
+
+pub power-sum-zero : (n w : ℕ) (x : ℕ → ℕ) (k : ℕ) → ((i : ℕ) → x i ≡ 0) → powerSum n w x k ≡ 0
+unfolding powerSum
+power-sum-zero n w x k none = sum-zero naturals n _ (λ i _. ap (λ (z : ℕ). z * w ^ (i * k)) (none i) ∙ zero-mul (w ^ (i * k)))
+
+pub power-sum2-zero : (n w k l : ℕ) → powerSum2 n w (λ i j. 0) k l ≡ 0
+unfolding powerSum2
+power-sum2-zero n w k l = power-sum-zero n w _ k (λ i. power-sum-zero n w (λ j. 0) l (λ j. refl))
 
 pub power-sum-sum : (n w a : ℕ) (x : ℕ → ℕ → ℕ) (k : ℕ) → powerSum n w (λ j. sum a (λ i. x i j)) k ≡ sum a (λ i. powerSum n w (x i) k)
 unfolding powerSum

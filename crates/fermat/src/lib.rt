@@ -5,12 +5,14 @@ ghost use Rattle.fermat.specs.Transform.{transformIn, inverseIn};
 ghost use Rattle.fermat.specs.Answer.{transformCode, transformed, inverted, row, Accepted};
 
 mod butterfly;
+pub mod corner;
 pub mod field;
 pub mod halving;
 pub mod order;
 pub mod product;
 pub mod residues;
 pub mod rules;
+pub mod spectrum;
 pub mod tile;
 
 // The first of the rules 2, 18 and 19 that is broken, or 0.

@@ -3,7 +3,7 @@
 ghost use mathlib.Core.Path.{_≡_};
 ghost use Prim.Native.Nat.{ℕ, _+_, _-_, _*_, _%_, _^_, _<_, _≤_};
 ghost use lib.ListN.{length, getD};
-ghost use Rattle.fermat.specs.Field.{modulus, scale};
+ghost use Rattle.fermat.specs.Field.{modulus};
 ghost use Rattle.fermat.specs.Product.{factorMost, Product, Settled, Accumulated, Finishing, Finished, finishedOf, inverseMost};
 use crate::field::bits_of;
 use crate::field::levels_of;

@@ -1,7 +1,8 @@
-// Loops over words: whether all are residues, and each one times a number, reduced.
+// Loops over words: whether all are residues, each one times a number, reduced, and some set to 0.
 ghost use mathlib.Core.Path.{_≡_};
-ghost use Prim.Native.Nat.{ℕ, _*_, _%_, _<_, _≤_};
+ghost use Prim.Native.Nat.{ℕ, _-_, _*_, _%_, _<_, _≤_};
 ghost use lib.ListN.{length, getD};
+ghost use Rattle.algebra.specs.Places.{Written, Run};
 ghost use Rattle.fermat.specs.Answer.{allBelow};
 
 // Whether every word is below m.
@@ -26,6 +27,18 @@ pub fn scale(words: &mut [u64], s: u64, m: u64)
     let mut i = 0;
     while i < words.len() {
         words[i] = (s * (words[i] % m)) % m;
+        i += 1;
+    }
+}
+
+// Sets the words from `from` up to `to` to 0.
+pub fn clear(words: &mut [u64], from: usize, to: usize)
+    requires { ⌜ (from ≤ to) × (to ≤ length (now words)) ⌝ }
+    ensures { λ _. ⌜ Written 0 (Run from (to - from)) (λ _. 0) (now (words .entry)) (now (words .exit)) ⌝ }
+{
+    let mut i = from;
+    while i < to {
+        words[i] = 0;
         i += 1;
     }
 }

@@ -3,6 +3,7 @@
 ghost use Prim.Native.Nat.{_+_, _-_, _*_, _^_};
 ghost use lib.ListN.{length};
 ghost use Rattle.fermat.specs.Butterfly.{Bound, AtMost};
+ghost use Rattle.fermat.specs.Halving.{word};
 ghost use Rattle.fermat.specs.Tile.{TileForward, TileInverse, Square};
 use crate::halving::forward;
 use crate::halving::inverse;
@@ -12,7 +13,7 @@ pub fn forward_tile(words: &mut [u64], n: usize, levels: u32, bits: u32, bound: 
     requires { ⌜ Bound bits bound ⌝ }
     requires { ⌜ Square (length (now words)) n levels bits bound ⌝ }
     requires { ⌜ AtMost bound (now words) ⌝ }
-    ensures { λ _. ⌜ TileForward (2 ^ bits + 1) 2 levels n (now (words .entry)) (now (words .exit)) ⌝ }
+    ensures { λ _. ⌜ TileForward (2 ^ bits + 1) 2 levels n (λ r j. word n r j (now (words .entry))) 0 (now (words .exit)) ⌝ }
     ensures { λ _. ⌜ AtMost (bound * 2 ^ levels * 2 ^ levels) (now (words .exit)) ⌝ }
 {
     forward(words, n, n, levels, 1, bits, bound);

@@ -1,20 +1,16 @@
 -- The kernel by planes: plane p is the run of K² weights from p·K² on, it lies within the kernel, and the sum of the sizes over the run is the
 -- double sum over the plane's rows and columns. It rests on the laws of sums.
 use mathlib.Core.Path.{_≡_, sym, ap, _∙_}
-use mathlib.Core.Bool.{Bool, true, false, cond}
 use mathlib.Core.List.{List}
 use Prim.Native.Nat.{ℕ, _+_, _*_, _-_, _≤_, _<_}
-use native.Mathlib.Nat.{mul-le-mul-right, suc-mul, mul-comm}
+use native.Mathlib.Nat.{mul-le-mul-right, suc-mul}
 use native.Mathlib.Omega.{arith}
 use lib.IntN.{ℤ, pos, natAbs}
 use lib.ListN.{length, getD, take, drop, length-take, length-drop}
 use lib.Seq.{getD-take, getD-drop}
 use Rattle.algebra.specs.Sum.{sum}
 use Rattle.algebra.specs.SumLaws.{naturals, sum-cong}
-use Rattle.layer.specs.declared.shape.Layer.{Layer}
-use Rattle.layer.specs.Shape.{isConv}
 use Rattle.layer.specs.Direct.{cell}
-use Rattle.layer.specs.Load.{planeOf}
 use Rattle.layer.specs.Weights.{sizeSum}
 use Rattle.algebra.specs.SumLaws.{sum-flat}
 
@@ -23,18 +19,6 @@ abbrev pub planeSize : (K : ℕ) → List ℤ → (p : ℕ) → ℕ
 planeSize K kernel p = sum K (λ a. sum K (λ b. natAbs (cell K K kernel p a b)))
 
 -- ---- the place of a plane
-
--- row m of M rows of C, place c in it
-below : (m M c C : ℕ) → m < M → c < C → m * C + c < M * C
-below m M c C hm hc = omega (arith, mul-le-mul-right C hm, suc-mul m C)
-
--- the planes that reach a channel are planes of the kernel
-pub plane-below : (l : Layer) (m c : ℕ) → m < l .outputs → c < l .inputs → planeOf l m c < l .outputs * l .inputs
-plane-below l m c hm hc = go (isConv l)
-  where
-    go : (t : Bool) → cond t (m * l .inputs + c) (c * l .outputs + m) < l .outputs * l .inputs
-    go true = below m (l .outputs) c (l .inputs) hm hc
-    go false = omega (arith, below c (l .inputs) m (l .outputs) hc hm, mul-comm (l .inputs) (l .outputs))
 
 -- plane p of n planes ends within them
 pub plane-ends : (p n area : ℕ) → p < n → p * area + area ≤ n * area

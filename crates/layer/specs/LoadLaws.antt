@@ -1,12 +1,16 @@
 -- The load of an output channel bounds the size of its direct sums, so that a sum whose load is within the limit is read back from its
--- residue. It rests on the one form of both kinds in Weighed, and on the sizes of sums.
-use mathlib.Core.Path.{_≡_, refl}
-use mathlib.Core.Bool.{Bool, true, false}
-use mathlib.Core.List.{List}
-use Prim.Native.Nat.{ℕ, _+_, _*_, _/_, _%_, _<_, _≤_}
-use native.Mathlib.Nat.{le-trans}
+-- residue. Rules 15 and 16 bound every map value and the load of every output channel. It rests on the one form of both kinds in Weighed,
+-- and on the sizes of sums.
+use mathlib.Core.Path.{_≡_, refl, ap, _∙_}
+use mathlib.Core.Bool.{Bool, true, false, cond}
+use mathlib.Core.List.{List, [], _∷_}
+use Prim.Native.Nat.{ℕ, zero, suc, _+_, _*_, _/_, _%_, _<_, _≤_}
+use native.Mathlib.Nat.{le-trans, mul-comm}
 use native.Mathlib.Decide.{ℕ-discrete}
 use native.Mathlib.Omega.{arith}
+use borrow.Author.Tests.{leb-true}
+use lib.Dec.{leb}
+use lib.Arith.{digits-lt}
 use lib.ListN.{getD}
 use lib.IntN.{ℤ, pos, natAbs}
 use Rattle.algebra.specs.Sum.{sum}
@@ -14,12 +18,23 @@ use Rattle.algebra.specs.SizeLaws.{size-sum-le, size-dot}
 use Rattle.algebra.specs.Residue.{residue, signed}
 use Rattle.algebra.specs.ResidueLaws.{read-back}
 use Rattle.fermat.specs.Field.{modulus}
+use Rattle.fermat.specs.RulesLaws.{both-true}
 use Rattle.layer.specs.declared.shape.Layer.{Layer}
 use Rattle.layer.specs.Shape.{isConv}
 use Rattle.layer.specs.Direct.{when, within, cell, fullAt}
-use Rattle.layer.specs.Load.{planeOf, load, loadLimit}
+use Rattle.layer.specs.Load.{planeOf, load, loadLimit, every, loadsFit, withinPeak}
 use Rattle.layer.specs.WindowLaws.{spread}
 use Rattle.layer.specs.Weighed.{weighed, metBy, full-weighed}
+
+-- the planes that reach a channel are planes of the kernel
+pub plane-below : (l : Layer) (m c : ℕ) → m < l .outputs → c < l .inputs → planeOf l m c < l .outputs * l .inputs
+plane-below l m c hm hc = go (isConv l)
+  where
+    go : (test : Bool) → cond test (m * l .inputs + c) (c * l .outputs + m) < l .outputs * l .inputs
+    go true = digits-lt hm hc
+    go false =
+        let below : c * l .outputs + m < l .inputs * l .outputs = digits-lt hc hm in
+        omega (arith, mul-comm (l .inputs) (l .outputs))
 
 -- values of size at most A against weights
 pub size-weighed : (C K A : ℕ) (kernel : List ℤ) (plane : ℕ → ℕ) (v : ℕ → ℕ → ℕ → ℤ) → ((c a b : ℕ) → natAbs (v c a b) ≤ A)
@@ -43,6 +58,29 @@ limits t low high = go (ℕ-discrete t 4)
     go (no d) =
         let e : t ≡ 5 = omega arith in
         rw e (refl, omega arith)
+
+-- rule 15, of one place; a place beyond the end of the map is read as 0
+pub peak-bounds : (peak : ℕ) (values : List ℤ) → withinPeak peak values ≡ true → (n : ℕ) → natAbs (getD values n (pos 0)) ≤ peak
+unfolding withinPeak
+peak-bounds peak [] e n = omega arith
+peak-bounds peak (value ∷ values) e zero = leb-true (natAbs value) peak (both-true (leb (natAbs value) peak) (withinPeak peak values) e .0)
+peak-bounds peak (value ∷ values) e (suc n) = peak-bounds peak values (both-true (leb (natAbs value) peak) (withinPeak peak values) e .1) n
+
+every-holds : (n : ℕ) (test : ℕ → Bool) → every n test ≡ true → (i : ℕ) → i < n → test i ≡ true
+every-holds zero test e i l = absurd (omega arith)
+every-holds (suc n) test e i l = go (ℕ-discrete i n) (every-holds n test (both .0) i)
+  where
+    both : (every n test ≡ true) × (test n ≡ true)
+    both = both-true (every n test) (test n) e
+
+    go : Dec (i ≡ n) → (i < n → test i ≡ true) → test i ≡ true
+    go (yes same) before = ap test same ∙ both .1
+    go (no other) before = before (omega arith)
+
+-- rule 16, of one output channel
+pub load-fits : (l : Layer) (kernel : List ℤ) → loadsFit l kernel ≡ true → (m : ℕ) → m < l .outputs → load l kernel m ≤ loadLimit (l .field)
+unfolding loadsFit
+load-fits l kernel e m h = leb-true _ _ (every-holds (l .outputs) (λ m. leb (load l kernel m) (loadLimit (l .field))) e m h)
 
 module _ (l : Layer) (map kernel : List ℤ) (strided : 0 < l .stride) (bounded : (n : ℕ) → natAbs (getD map n (pos 0)) ≤ l .peak) where
   size-met : (i j c a b : ℕ) → natAbs (metBy l map i j c a b) ≤ l .peak

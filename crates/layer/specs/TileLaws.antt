@@ -7,7 +7,7 @@ use native.Mathlib.Nat.{div-lt-iff-lt-mul, div-add-mod', mod-lt, lt-div-mul-add,
 use native.Mathlib.Omega.{arith}
 use lib.Arith.{digits-lt, digits-div, digits-mod}
 use Rattle.layer.specs.declared.shape.Layer.{Layer}
-use Rattle.layer.specs.ChecksLaws.{Planned}
+use Rattle.layer.specs.ChecksLaws.{InRange, Planned}
 use Rattle.layer.specs.TileSizes.{tile-side-low}
 use Rattle.layer.specs.Shape.{isConv, tileSide, gridStep, span, tilesAcross, tileRows, tileColumns, tileTotal, channelOf, rowOf, columnOf, tileOf}
 
@@ -68,20 +68,22 @@ pub record Tiled (l : Layer) : Type 0 where
   pub step : 0 < gridStep l
   pub wide : gridStep l ≤ tileSide l
 
-pub planned-tiled : (l : Layer) → Planned l → Tiled l
-planned-tiled l p = record {
-  rows = p .rows-low;
-  columns = p .columns-low;
-  step = steps .0;
-  wide = omega (arith, steps .1, tile-side-low l (p .shape));
-}
+pub step-range : (l : Layer) → InRange l → (0 < gridStep l) × (gridStep l ≤ 4)
+step-range l r = go (isConv l)
   where
-    steps : (0 < gridStep l) × (gridStep l ≤ 4)
-    steps = go (isConv l)
-      where
-        go : (conv : Bool) → (0 < cond conv (l .stride) 1) × (cond conv (l .stride) 1 ≤ 4)
-        go true = (p .shape .stride-low, p .shape .stride-high)
-        go false = (omega arith, omega arith)
+    go : (conv : Bool) → (0 < cond conv (l .stride) 1) × (cond conv (l .stride) 1 ≤ 4)
+    go true = (r .stride-low, r .stride-high)
+    go false = (omega arith, omega arith)
+
+pub planned-tiled : (l : Layer) → Planned l → Tiled l
+planned-tiled l p =
+    let (low, high) = step-range l (p .shape) in
+    record {
+      rows = p .rows-low;
+      columns = p .columns-low;
+      step = low;
+      wide = omega (arith, tile-side-low l (p .shape));
+    }
 
 -- the row and the column of tiles that tile t stands in, and its output channel
 abbrev pub tileChannel : Layer → ℕ → ℕ
@@ -102,7 +104,7 @@ pub record InTile (l : Layer) (t p : ℕ) : Type 0 where
   pub column-high : columnOf l p * gridStep l < tileColumn l t * tileSide l + tileSide l
 
 -- the rows that `count` wanted ones span
-span-is : (l : Layer) (count : ℕ) → 0 < count → span l count ≡ (count - 1) * gridStep l + 1
+pub span-is : (l : Layer) (count : ℕ) → 0 < count → span l count ≡ (count - 1) * gridStep l + 1
 span-is l count some = go (isConv l)
   where
     go : (conv : Bool) → cond conv ((count - 1) * l .stride + 1) count ≡ (count - 1) * cond conv (l .stride) 1 + 1
@@ -128,17 +130,20 @@ module _ (l : Layer) (tiled : Tiled l) where
       above zero b h _ = absurd (omega arith)
       above (suc a) zero _ h = absurd (omega arith)
 
-  row-lt : (p : ℕ) → rowOf l p < l .rows
+  pub row-lt : (p : ℕ) → rowOf l p < l .rows
   row-lt p = div-lt-iff-lt-mul (tiled .columns) .1 (mod-lt p plane)
 
-  column-lt : (p : ℕ) → columnOf l p < l .columns
+  pub column-lt : (p : ℕ) → columnOf l p < l .columns
   column-lt p = mod-lt (p % (l .rows * l .columns)) (tiled .columns)
+
+  pub channel-lt : (p : ℕ) → p < l .outputs * (l .rows * l .columns) → channelOf l p < l .outputs
+  channel-lt p h = div-lt-iff-lt-mul plane .1 h
 
   -- every output place lies in a tile below the total
   pub tile-of-lt : (p : ℕ) → p < l .outputs * (l .rows * l .columns) → tileOf l p < tileTotal l
   unfolding tileOf tileTotal
   tile-of-lt p h =
-      digits-lt (digits-lt (div-lt-iff-lt-mul plane .1 h) (line-lt (l .rows) (rowOf l p) (row-lt p)))
+      digits-lt (digits-lt (channel-lt p h) (line-lt (l .rows) (rowOf l p) (row-lt p)))
       (line-lt (l .columns) (columnOf l p) (column-lt p))
 
   -- the square of that tile, and of no other, holds the place
@@ -190,14 +195,20 @@ pub record Place (l : Layer) (t : ℕ) : Type 0 where
   pub tile : tileOf l place ≡ t
 
 -- a wanted row or column in tile t of a line of tiles
-line-held : (l : Layer) → Tiled l → (count t : ℕ) → 0 < count → t < tilesAcross (tileSide l) (span l count)
+pub line-held : (l : Layer) → Tiled l → (count t : ℕ) → 0 < count → t < tilesAcross (tileSide l) (span l count)
     → Held (tileSide l) (gridStep l) count t
 line-held l tiled count t some h =
     held (tileSide l) (gridStep l) count t (tiled .step) (tiled .wide) some
     (subst (λ (n : ℕ). t < tilesAcross (tileSide l) n) (span-is l count some) h)
 
-line-some : (l : Layer) → Tiled l → (count : ℕ) → 0 < count → 0 < tilesAcross (tileSide l) (span l count)
+pub line-some : (l : Layer) → Tiled l → (count : ℕ) → 0 < count → 0 < tilesAcross (tileSide l) (span l count)
 line-some l tiled count some = omega (arith, line-lt l tiled count 0 some)
+
+pub tile-channel-lt : (l : Layer) → Tiled l → (t : ℕ) → t < tileTotal l → tileChannel l t < l .outputs
+unfolding tileTotal
+tile-channel-lt l tiled t h =
+    div-lt-iff-lt-mul (line-some l tiled (l .rows) (tiled .rows)) .1
+    (div-lt-iff-lt-mul (line-some l tiled (l .columns) (tiled .columns)) .1 h)
 
 pub tile-held : (l : Layer) → Tiled l → (t : ℕ) → t < tileTotal l → Place l t
 unfolding tileTotal tileOf
@@ -221,7 +232,7 @@ tile-held l tiled t h = record {
     columns-some = line-some l tiled (l .columns) (tiled .columns)
 
     channel : tileChannel l t < l .outputs
-    channel = div-lt-iff-lt-mul rows-some .1 (div-lt-iff-lt-mul columns-some .1 h)
+    channel = tile-channel-lt l tiled t h
 
     row : Held (tileSide l) (gridStep l) (l .rows) (tileRow l t)
     row = line-held l tiled (l .rows) (tileRow l t) (tiled .rows) (mod-lt (t / tileColumns l) rows-some)

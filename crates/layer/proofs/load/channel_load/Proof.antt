@@ -9,7 +9,8 @@ use lib.ListN.{length}
 use Rattle.algebra.specs.Sum.{sum}
 use Rattle.algebra.specs.SumLaws.{sum-none, sum-last}
 use Rattle.layer.specs.Load.{planeOf, load}
-use Rattle.layer.proofs.Planes.{planeSize, plane-below, plane-ends, plane-size, part-length}
+use Rattle.layer.specs.LoadLaws.{plane-below}
+use Rattle.layer.proofs.Planes.{planeSize, plane-ends, plane-size, part-length}
 use Rattle.layer.proofs.load.channel_load.Statement.{statement}
 use Rattle.layer.proofs.load.channel_load.Tie as tie
 

@@ -1,0 +1,190 @@
+-- One map channel's work on scratch, three parts of N² words: the sum of products, the kernel, the window. The kernel and the window are
+-- transformed in parts that are lent; then their product is added to the sum. It rests on the laws of spectra (SpectrumLaws), of
+-- parts (PlacesLaws), and on what the circular sum of one map channel represents (TileReads).
+use mathlib.Core.Path.{subst, _≡_, refl, sym, ap, _∙_}
+use mathlib.Core.Logic.{_⊎_}
+use mathlib.Core.List.{List}
+use Prim.Native.Nat.{ℕ, _+_, _*_, _-_, _≤_, _<_}
+use native.Mathlib.Nat.{zero-add, mul-le-mul}
+use native.Mathlib.Numerals.{add-one}
+use native.Mathlib.Decide.{decLt}
+use native.Mathlib.Omega.{arith}
+use lib.Dec.{eqb}
+use lib.IntN.{ℤ, pos}
+use lib.ListN.{length, getD}
+use borrow.Rule.Slice.PartMut.{putMid}
+use Rattle.algebra.specs.SumLaws.{sumZ-none, sumZ-last}
+use Rattle.algebra.specs.Places.{Changed}
+use Rattle.algebra.specs.PlacesLaws.{getD-put-mid, changed-part, changed-again}
+use Rattle.algebra.specs.CongruenceLaws.{c-eq}
+use Rattle.algebra.specs.ResidueLaws.{Represents, represents-add}
+use Rattle.fermat.specs.Field.{modulus}
+use Rattle.fermat.specs.Transform.{circular2}
+use Rattle.fermat.specs.Tile.{Spectrum}
+use Rattle.fermat.specs.Product.{factorMost, productMost, Accumulated}
+use Rattle.fermat.specs.SpectrumLaws.{spectrum-none, spectrum-moved, spectrum-kept, spectrum-accumulated}
+use Rattle.layer.specs.declared.shape.Layer.{Layer}
+use Rattle.layer.specs.Shape.{transformLength}
+use Rattle.layer.specs.Load.{planeOf}
+use Rattle.layer.specs.ChecksLaws.{Planned, cond-le}
+use Rattle.tile.specs.declared.origin.Origin.{Origin}
+use Rattle.tile.specs.Window.{windowAt, weightAt}
+use Rattle.tile.specs.Channel.{area, KernelReady, WindowReady, Added}
+use Rattle.tile.proofs.TileReads.{channel-represents}
+
+-- ---- the two parts that are lent
+
+-- from place a₁ on k₁ words are lent and come back as ks, then from a₂ on k₂ words, which come back as ws; A is N²
+pub record Lending (A a₁ k₁ a₂ k₂ : ℕ) (xs ks ws : List ℕ) : Type 0 where
+  pub kernel-at : a₁ ≡ A
+  pub kernel-count : k₁ ≡ 2 * A
+  pub window-at : a₂ ≡ 2 * A
+  pub window-count : k₂ ≡ A
+  pub room : 3 * A ≤ length xs
+  pub kernel-length : length ks ≡ 2 * A
+  pub window-length : length ws ≡ A
+
+module _ {A a₁ k₁ a₂ k₂ : ℕ} {xs ks ws : List ℕ} (p : Lending A a₁ k₁ a₂ k₂ xs ks ws) where
+  -- scratch after the first part came back, and after the second
+  abbrev one : List ℕ
+  one = putMid a₁ k₁ xs ks
+
+  abbrev both : List ℕ
+  both = putMid a₂ k₂ one ws
+
+  first-room : a₁ + k₁ ≤ length xs
+  first-room = omega (arith, p .kernel-at, p .kernel-count, p .room)
+
+  first-length : length ks ≡ k₁
+  first-length = p .kernel-length ∙ sym (p .kernel-count)
+
+  first : Changed 0 a₁ (a₁ + k₁) xs one
+  first = changed-part xs ks a₁ k₁ first-room first-length
+
+  second-room : a₂ + k₂ ≤ length one
+  second-room = omega (arith, first .size, p .window-at, p .window-count, p .room)
+
+  second-length : length ws ≡ k₂
+  second-length = p .window-length ∙ sym (p .window-count)
+
+  second : Changed 0 a₂ (a₂ + k₂) one both
+  second = changed-part one ws a₂ k₂ second-room second-length
+
+  lent-changed : Changed 0 A (3 * A) xs both
+  lent-changed =
+      changed-again A (3 * A) (omega (arith, p .kernel-at)) (omega (arith, p .window-at))
+      (omega (arith, p .kernel-at, p .kernel-count)) (omega (arith, p .window-at, p .window-count)) first second
+
+  -- the second part is the window's, and leaves the first N² words of the first part, the kernel's
+  kernel-word : (i : ℕ) → i < A → getD both (A + i) 0 ≡ getD ks i 0
+  kernel-word i h =
+      let e : A + i ≡ a₁ + i = omega (arith, p .kernel-at) in
+      second .before (A + i) (omega (arith, p .window-at)) ∙ ap (λ (j : ℕ). getD one j 0) e
+      ∙ getD-put-mid 0 xs ks a₁ k₁ first-room first-length i (omega (arith, p .kernel-count))
+
+  window-word : (i : ℕ) → i < A → getD both (A + A + i) 0 ≡ getD ws i 0
+  window-word i h =
+      let e : A + A + i ≡ a₂ + i = omega (arith, p .window-at) in
+      ap (λ (j : ℕ). getD both j 0) e ∙ getD-put-mid 0 one ws a₂ k₂ second-room second-length i (omega (arith, p .window-count))
+
+  -- a bound of both transforms
+  lent-most : {most : ℕ} → ((i : ℕ) → i < A → getD ks i 0 ≤ most) → ((i : ℕ) → i < A → getD ws i 0 ≤ most)
+      → (i : ℕ) → A ≤ i → i < 3 * A → getD both i 0 ≤ most
+  lent-most {most} kernel window i low high = go (decLt i (2 * A))
+    where
+      go : Dec (i < 2 * A) → getD both i 0 ≤ most
+      go (yes h) =
+          let e : i ≡ A + (i - A) = omega arith in
+          rw (ap (λ (j : ℕ). getD both j 0) e ∙ kernel-word (i - A) (omega arith)) (kernel (i - A) (omega arith))
+      go (no h) =
+          let e : i ≡ A + A + (i - 2 * A) = omega arith in
+          rw (ap (λ (j : ℕ). getD both j 0) e ∙ window-word (i - 2 * A) (omega arith)) (window (i - 2 * A) (omega arith))
+
+module _ (l : Layer) (map kernel : List ℤ) (o : Origin) where
+  -- zs is scratch xs with the transforms of the kernel and of the window of map channel c in the second and the third part
+  pub record Transformed (c : ℕ) (xs zs : List ℕ) : Type 0 where
+    pub weight : ℕ → ℕ → ℕ
+    pub weight-value : (a b : ℕ) → a < l .side → b < l .side
+        → Represents (modulus (l .field)) (weightAt l kernel (planeOf l (o .channel) c) a b) (weight a b)
+    pub weight-empty : (a b : ℕ) → (l .side ≤ a) ⊎ (l .side ≤ b) → weight a b ≡ 0
+    pub weight-spectrum : Spectrum (l .field) weight (area l) zs
+    pub window : ℕ → ℕ → ℕ
+    pub window-value : (u v : ℕ) → u < transformLength l → v < transformLength l
+        → Represents (modulus (l .field)) (windowAt l map c (o .row) (o .column) u v) (window u v)
+    pub window-spectrum : Spectrum (l .field) window (area l + area l) zs
+    pub bound : (i : ℕ) → area l ≤ i → i < 3 * area l → getD zs i 0 ≤ factorMost (l .field)
+    pub room : 3 * area l ≤ length zs
+    pub changed : Changed 0 (area l) (3 * area l) xs zs
+
+  pub transformed : {c a₁ k₁ a₂ k₂ : ℕ} {xs ks ws : List ℕ} → Lending (area l) a₁ k₁ a₂ k₂ xs ks ws
+      → KernelReady l kernel (planeOf l (o .channel) c) ks → WindowReady l map c (o .row) (o .column) ws
+      → Transformed c xs (putMid a₂ k₂ (putMid a₁ k₁ xs ks) ws)
+  transformed p k w = record {
+    weight = k .words;
+    weight-value = k .value;
+    weight-empty = k .empty;
+    weight-spectrum = spectrum-moved refl (k .spectrum) (λ i h. rw (zero-add i) (c-eq (kernel-word p i h)));
+    window = w .words;
+    window-value = w .value;
+    window-spectrum = spectrum-moved refl (w .spectrum) (λ i h. rw (zero-add i) (c-eq (window-word p i h)));
+    bound = lent-most p (k .bound) (λ i h. w .bound i (omega (arith, p .window-length)));
+    room = omega (arith, lent-changed p .size, p .room);
+    changed = lent-changed p;
+  }
+
+  -- ---- the sum of products
+
+  -- none yet: the first part holds 0
+  pub added-none : {xs₀ xs : List ℕ} → Changed 0 0 (3 * area l) xs₀ xs → ((i : ℕ) → i < area l → getD xs i 0 ≡ 0)
+      → Added l map kernel o 0 xs₀ xs
+  added-none changed none = record {
+    sum = λ i j. 0;
+    value = λ i j _ _ _ _. record { multiple = pos 0; equation = rw sumZ-none (ap pos (omega arith)) };
+    spectrum = spectrum-none refl (λ i h. rw (zero-add i) (none i h));
+    bound = λ i h. omega (arith, none i h);
+    changed = changed;
+  }
+
+  module _ (plan : Planned l) {c : ℕ} {xs zs : List ℕ} (ready : Transformed c xs zs) where
+    -- what `accumulate` asks of scratch
+    pub accumulate-asks : {count : ℕ} → count ≡ area l → c < l .inputs → ((i : ℕ) → i < area l → getD xs i 0 ≤ c * productMost (l .field))
+        → ((4 ≤ l .field) × (l .field ≤ 5) × (3 * count ≤ length zs))
+        × (((i : ℕ) → i < count → getD zs i 0 < 9223372036854775808)
+        × ((i : ℕ) → count ≤ i → i < 3 * count → getD zs i 0 ≤ factorMost (l .field)))
+    accumulate-asks e h bounded = (
+      (plan .shape .field-low, plan .shape .field-high, omega (arith, ready .room)),
+      (λ i below. small i (omega arith), λ i low high. ready .bound i (omega arith) (omega arith)),
+    )
+      where
+        sums : c * productMost (l .field) ≤ 64 * 18014948269490176
+        sums =
+            mul-le-mul {n₂ = 64} {m₂ = 18014948269490176} (omega (arith, plan .shape .inputs-high))
+            (cond-le (eqb (l .field) 4) (omega arith) (omega arith))
+
+        small : (i : ℕ) → i < area l → getD zs i 0 < 9223372036854775808
+        small i lt = omega (arith, ready .changed .before i lt, bounded i lt, sums)
+
+    -- one more map channel
+    pub added-next : {count : ℕ} {ys : List ℕ} → count ≡ area l → Accumulated (l .field) count zs ys → length ys ≡ length zs
+        → (xs₀ : List ℕ) → Added l map kernel o c xs₀ xs → Added l map kernel o (c + 1) xs₀ ys
+    added-next {ys = ys} e accumulated size xs₀ before = record {
+      sum = λ i j. before .sum i j + circular2 (transformLength l) (ready .weight) (ready .window) i j;
+      value = λ i j a b d e.
+          rw (add-one c, sumZ-last) (represents-add (before .value i j a b d e)
+          (channel-represents l plan map kernel (o .channel) (o .row) (o .column) c (ready .window) (ready .weight)
+          (ready .window-value) (ready .weight-value) (ready .weight-empty) i j a b d e));
+      spectrum = spectrum-accumulated refl adds kept (ready .weight-spectrum) (ready .window-spectrum);
+      bound = λ i h. omega (arith, adds .bound i h, ready .changed .before i h, before .bound i h);
+      changed = changed-again 0 (3 * area l) (omega arith) (omega arith) (omega arith) (omega arith) (before .changed) then;
+    }
+      where
+        adds : Accumulated (l .field) (area l) zs ys
+        adds = subst (λ (n : ℕ). Accumulated (l .field) n zs ys) e accumulated
+
+        kept : Spectrum (l .field) (before .sum) 0 zs
+        kept = spectrum-kept refl (before .spectrum) (λ i h. rw (zero-add i) (ready .changed .before i h))
+
+        then : Changed 0 0 (3 * area l) xs ys
+        then =
+            let own : Changed 0 0 (area l) zs ys = record { size = size; before = λ p h. absurd (omega arith); after = adds .kept } in
+            changed-again 0 (3 * area l) (omega arith) (omega arith) (omega arith) (omega arith) (ready .changed) own

@@ -1,0 +1,75 @@
+-- The sum over all map channels, back to residues: at the places of tile t each word reads as the direct sum.
+use mathlib.Core.Path.{_≡_, refl, sym, _∙_}
+use mathlib.Core.List.{List, _++_}
+use Prim.Native.Nat.{ℕ, _+_, _*_, _-_, _%_, _<_}
+use native.Mathlib.Nat.{zero-add}
+use native.Mathlib.Omega.{arith}
+use lib.IntN.{ℤ}
+use lib.ListN.{length, getD, List·getD-append}
+use Rattle.algebra.specs.Sum.{sumZ}
+use Rattle.algebra.specs.ResidueLaws.{Represents}
+use Rattle.fermat.specs.Field.{modulus}
+use Rattle.fermat.specs.Halving.{word}
+use Rattle.fermat.specs.Tile.{Spectrum, Recovered}
+use Rattle.fermat.specs.SpectrumLaws.{spectrum-kept}
+use Rattle.fermat.specs.OrderLaws.{place-lt}
+use Rattle.layer.specs.declared.shape.Layer.{Layer}
+use Rattle.layer.specs.Shape.{transformLength, tileOf}
+use Rattle.layer.specs.Direct.{directAt}
+use Rattle.layer.specs.ChecksLaws.{Planned, planned, Callable}
+use Rattle.layer.specs.TileLaws.{InTile, planned-tiled, to-tile, tileChannel}
+use Rattle.tile.specs.declared.origin.Origin.{Origin}
+use Rattle.tile.specs.Window.{firstRow, firstColumn, channelSum, rowInTile, columnInTile}
+use Rattle.tile.specs.Channel.{area, Added}
+use Rattle.tile.specs.Stored.{halfOf, wordOf, storedAt, Storable}
+use Rattle.tile.proofs.Reading.{Moved}
+use Rattle.tile.proofs.TileReads.{row-in-window, column-in-window, tile-reads}
+
+-- the origin is that of tile t
+pub record At (l : Layer) (t : ℕ) (o : Origin) : Type 0 where
+  pub channel : o .channel ≡ tileChannel l t
+  pub row : o .row ≡ firstRow l t
+  pub column : o .column ≡ firstColumn l t
+
+-- ys is scratch after the sum, rs what comes back of its first part, and zs scratch then
+module _ (l : Layer) (map kernel : List ℤ) (output scratch t : ℕ) (callable : Callable l map kernel output scratch) (o : Origin) (at : At l t o)
+    (xs ys part rs rest : List ℕ) (added : Added l map kernel o (l .inputs) xs ys)
+    (lent : (i : ℕ) → i < area l → getD part i 0 ≡ getD ys i 0) (recovered : Recovered (l .field) part rs) (size : length rs ≡ area l) where
+  plan : Planned l
+  plan = planned l (callable .plan)
+
+  sums : Spectrum (l .field) (added .sum) 0 part
+  sums = spectrum-kept refl (added .spectrum) (λ i h. rw (zero-add i) (lent i h))
+
+  module _ (p : ℕ) (below : p < output) (held : tileOf l p ≡ t) where
+    in-tile : InTile l t p
+    in-tile = to-tile l (planned-tiled l plan) t p held
+
+    abbrev i : ℕ
+    i = l .side - 1 + rowInTile l t p
+
+    abbrev j : ℕ
+    j = l .side - 1 + columnInTile l t p
+
+    row : i < transformLength l
+    row = row-in-window l plan t p in-tile
+
+    column : j < transformLength l
+    column = column-in-window l plan t p in-tile
+
+    -- the word of place p
+    word-is : wordOf l t p (rs ++ rest) ≡ (added .sum i j + halfOf (l .field)) % modulus (l .field)
+    word-is =
+        List·getD-append rs rest 0 (i * transformLength l + j) (omega (arith, size, place-lt i j row column))
+        ∙ recovered (added .sum) sums i j row column
+
+    represents : Represents (modulus (l .field))
+        (sumZ (l .inputs) (λ c. channelSum l map kernel (tileChannel l t) (firstRow l t) (firstColumn l t) c i j)) (added .sum i j)
+    represents = rw (sym (at .channel), sym (at .row), sym (at .column)) (added .value i j (omega arith) row (omega arith) column)
+
+    reads : Moved (halfOf (l .field)) 2147483647 (directAt l map kernel p) ((added .sum i j + halfOf (l .field)) % modulus (l .field))
+    reads = tile-reads l map kernel output scratch t callable p below held represents
+
+    -- what is stored is the direct sum, and it fits 32 bits
+    pub finished : Storable (halfOf (l .field)) (wordOf l t p (rs ++ rest)) × (storedAt l t (rs ++ rest) p ≡ directAt l map kernel p)
+    finished = rw word-is (reads .bound, reads .reads)

@@ -1,0 +1,100 @@
+-- The kernel's plane in a part of scratch: what is lent to be loaded, what the transform of the corner asks, and what it leaves.
+use mathlib.Core.Path.{_≡_, refl, sym, ap, _∙_, subst}
+use mathlib.Core.Bool.{Bool, true, false, _&&_, cond}
+use mathlib.Core.Logic.{_⊎_, inl, inr}
+use mathlib.Core.List.{List}
+use Prim.Native.Nat.{ℕ, _+_, _*_, _-_, _≤_, _<_}
+use native.Mathlib.Nat.{mul-le-mul, mul-le-mul-left, mul-le-mul-right}
+use native.Mathlib.Omega.{arith}
+use lib.Arith.{digits-lt}
+use lib.Dec.{ltb}
+use lib.IntN.{ℤ}
+use lib.ListN.{length, getD, drop, length-drop}
+use lib.Seq.{length-take-le}
+use borrow.Author.Tests.{lt-ltb, le-ltb}
+use borrow.Rule.Slice.PartMut.{midOf, putMid, same-len-mid}
+use Rattle.algebra.specs.PlacesLaws.{getD-put-mid}
+use Rattle.fermat.specs.Field.{modulus, points}
+use Rattle.fermat.specs.Tile.{Spectrum}
+use Rattle.fermat.specs.Corner.{corner, Cornered}
+use Rattle.fermat.specs.Product.{factorMost}
+use Rattle.layer.specs.declared.shape.Layer.{Layer}
+use Rattle.layer.specs.Shape.{transformLength}
+use Rattle.layer.specs.ChecksLaws.{InRange}
+use Rattle.layer.specs.TileSizes.{length-low, length-high}
+use Rattle.tile.specs.Loaded.{HoldsKernel}
+use Rattle.tile.specs.Channel.{area, KernelReady}
+
+-- the numbers: n is N, `from` is N², and the part that is lent has s words
+pub record Part (l : Layer) (n s : ℕ) (xs : List ℕ) : Type 0 where
+  pub range : InRange l
+  pub side : n ≡ transformLength l
+  pub count : s ≡ n * l .side
+  pub whole : length xs ≡ 2 * area l
+
+module _ {l : Layer} {n s : ℕ} {xs : List ℕ} (part : Part l n s xs) where
+  pub area-high : n * n ≤ 4096
+  area-high =
+      let most : n ≤ 64 = omega (arith, part .side, length-high l (part .range)) in
+      mul-le-mul most most
+
+  pub inside : n * l .side ≤ n * n
+  inside = mul-le-mul-left n (omega (arith, part .side, length-low l (part .range), part .range .side-high))
+
+  whole-n : length xs ≡ 2 * (n * n)
+  whole-n = rw (part .side) (part .whole)
+
+  pub part-le : n * n + s ≤ length xs
+  part-le = omega (arith, inside, part .count, whole-n)
+
+  pub part-length : length (midOf (n * n) s xs) ≡ transformLength l * l .side
+  part-length =
+      length-take-le s (drop (n * n) xs) (omega (arith, length-drop (n * n) xs, part-le)) ∙ part .count ∙ ap (λ (i : ℕ). i * l .side) (part .side)
+
+  module _ {kernel : List ℤ} {plane : ℕ} (ys : List ℕ) (kept : length ys ≡ length (midOf (n * n) s xs)) (holds : HoldsKernel l kernel plane ys) where
+    size : length ys ≡ s
+    size = kept ∙ length-take-le s (drop (n * n) xs) (omega (arith, length-drop (n * n) xs, part-le))
+
+    -- a loaded word, in the buffer
+    at-corner : (i : ℕ) → i < s → getD (putMid (n * n) s xs ys) (n * n + i) 0 ≡ getD ys i 0
+    at-corner = getD-put-mid 0 xs ys (n * n) s part-le size
+
+    pub cornered : Cornered (points (l .field)) (l .side) (2 * modulus (l .field)) (putMid (n * n) s xs ys)
+    cornered = subst (λ (N : ℕ). Cornered N (l .side) (2 * modulus (l .field)) (putMid (n * n) s xs ys)) (part .side) (record {
+      some = part .range .side-low;
+      inside = omega (arith, part .side, length-low l (part .range), part .range .side-high);
+      whole = same-len-mid (n * n) s xs ys kept ∙ whole-n;
+      bound = λ i h. rw (at-corner i (omega (arith, part .count))) (holds .bound i (omega (arith, size, part .count)));
+      empty = λ i low high. at-corner i (omega (arith, part .count)) ∙ holds .empty i low;
+    })
+
+    -- the words of the corner
+    abbrev words : ℕ → ℕ → ℕ
+    words = corner (l .side) (points (l .field) * points (l .field)) (putMid (n * n) s xs ys)
+
+    value : (a b : ℕ) → a < l .side → b < l .side → words a b ≡ getD ys (a * l .side + b) 0
+    value a b la lb =
+        let here : a * l .side + b < l .side * l .side = digits-lt la lb in
+        let low : l .side * l .side ≤ n * l .side = inside-low in
+        rw (lt-ltb a (l .side) la, lt-ltb b (l .side) lb, sym (part .side)) (at-corner (a * l .side + b) (omega (arith, part .count)))
+      where
+        inside-low : l .side * l .side ≤ n * l .side
+        inside-low = mul-le-mul-right (l .side) (omega (arith, part .side, length-low l (part .range), part .range .side-high))
+
+    outside : (a b : ℕ) → (l .side ≤ a) ⊎ (l .side ≤ b) → words a b ≡ 0
+    outside a b (inl h) = rw (le-ltb a (l .side) h)
+    outside a b (inr h) = rw (le-ltb b (l .side) h) (none (ltb a (l .side)))
+      where
+        none : (test : Bool) → cond (test && false) (getD (putMid (n * n) s xs ys) (points (l .field) * points (l .field) + (a * l .side + b)) 0) 0 ≡ 0
+        none true = refl
+        none false = refl
+
+    pub kernel-ready : (zs : List ℕ) → Spectrum (l .field) words 0 zs → ((i : ℕ) → i < area l → getD zs i 0 ≤ factorMost (l .field))
+        → KernelReady l kernel plane zs
+    kernel-ready zs spectrum bound = record {
+      words = words;
+      value = λ a b la lb. rw (value a b la lb) (holds .value a b la lb);
+      empty = outside;
+      spectrum = spectrum;
+      bound = bound;
+    }

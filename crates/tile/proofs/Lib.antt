@@ -1,0 +1,16 @@
+mod Sizes
+mod Loads
+mod Corner
+mod Figures
+mod Rows
+mod WindowRows
+mod KernelReady
+mod WindowIdentity
+mod Folding
+mod Reading
+mod TileReads
+mod Adding
+mod StoredRows
+mod HeldLines
+mod HeldPlaces
+mod Finishing

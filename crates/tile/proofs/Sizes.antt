@@ -1,0 +1,56 @@
+-- Bounds of the figures that the loads compute, so that arithmetic on them does not wrap.
+use Prim.Native.Nat.{ℕ, _+_, _*_, _-_, _^_, _≤_, _<_}
+use native.Mathlib.Nat.{mul-le-mul}
+use native.Mathlib.Omega.{arith}
+use lib.Arith.{digits-lt}
+use lib.Pow.{pow-mono}
+use Rattle.fermat.specs.Field.{modulus}
+use Rattle.layer.specs.declared.shape.Layer.{Layer}
+use Rattle.layer.specs.Shape.{transformLength}
+use Rattle.layer.specs.ChecksLaws.{InRange}
+use Rattle.layer.specs.TileSizes.{length-low}
+
+module _ (l : Layer) (r : InRange l) where
+  pub modulus-low : 65537 ≤ modulus (l .field)
+  modulus-low = omega (arith, pow-mono {i = 16} {j = 2 ^ l .field} (pow-mono {i = 4} {j = l .field} (r .field-low)))
+
+  pub modulus-high : modulus (l .field) ≤ 4294967297
+  modulus-high = omega (arith, pow-mono {i = 2 ^ l .field} {j = 32} (pow-mono {i = l .field} {j = 5} (r .field-high)))
+
+  -- K² weights, all of a kernel's planes, and the end of one plane
+  pub weights-high : l .side * l .side ≤ 121
+  weights-high = mul-le-mul {n₂ = 11} {m₂ = 11} (r .side-high) (r .side-high)
+
+  pub planes-high : l .outputs * l .inputs ≤ 4096
+  planes-high = mul-le-mul {n₂ = 64} {m₂ = 64} (r .outputs-high) (r .inputs-high)
+
+  pub kernel-high : l .outputs * l .inputs * (l .side * l .side) ≤ 495616
+  kernel-high = mul-le-mul {n₂ = 4096} {m₂ = 121} planes-high weights-high
+
+  pub plane-end : (plane : ℕ) → plane < l .outputs * l .inputs
+      → plane * (l .side * l .side) + l .side * l .side ≤ l .outputs * l .inputs * (l .side * l .side)
+  plane-end plane h =
+      let count : ℕ = l .side * l .side in
+      omega (arith, mul-le-mul {n₁ = plane + 1} {m₁ = count} {n₂ = l .outputs * l .inputs} {m₂ = count} (omega arith) (omega arith))
+
+  -- a corner has room for the weights
+  pub corner-room : l .side * l .side ≤ transformLength l * l .side
+  corner-room = mul-le-mul {m₁ = l .side} {m₂ = l .side} (omega (arith, length-low l r, r .side-high)) (omega arith)
+
+  -- all rows and all values of a map, and the place of a value
+  pub map-rows-high : l .inputs * l .height ≤ 32768
+  map-rows-high = mul-le-mul {n₂ = 64} {m₂ = 512} (r .inputs-high) (r .height-high)
+
+  pub map-high : l .inputs * l .height * l .width ≤ 16777216
+  map-high = mul-le-mul {n₂ = 32768} {m₂ = 512} map-rows-high (r .width-high)
+
+  pub map-row : (channel y : ℕ) → channel < l .inputs → y < l .height → channel * l .height + y < l .inputs * l .height
+  map-row channel y h k = digits-lt h k
+
+  pub map-place : (channel y x : ℕ) → channel < l .inputs → y < l .height → x < l .width
+      → (channel * l .height + y) * l .width + x < l .inputs * l .height * l .width
+  map-place channel y x h k f = digits-lt (map-row channel y h k) f
+
+-- row u of n rows of n ends within them
+pub row-end : (n u : ℕ) → u < n → u * n + n ≤ n * n
+row-end n u h = omega (arith, mul-le-mul {n₁ = u + 1} {m₁ = n} {n₂ = n} {m₂ = n} (omega arith) (omega arith))

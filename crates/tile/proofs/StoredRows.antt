@@ -1,0 +1,107 @@
+-- A row grows place by place, and the rows of a tile row by row. It rests on the laws of written places.
+use mathlib.Core.Path.{_≡_, sym, ap, ap₂, _∙_}
+use mathlib.Core.Logic.{_⊎_, inl, inr}
+use mathlib.Core.List.{List}
+use Prim.Native.Nat.{ℕ, _+_, _*_, _-_, _/_, _%_, _^_, _<_, _≤_}
+use native.Mathlib.Nat.{div-add-mod', add-assoc, mul-le-mul-right}
+use native.Mathlib.Decide.{ℕ-discrete}
+use native.Mathlib.Omega.{arith}
+use lib.Arith.{digits-lt, digits-div, digits-mod}
+use lib.IntN.{ℤ}
+use lib.Pow.{pow-mono}
+use lib.ListN.{length, getD, set}
+use Rattle.algebra.specs.Places.{Run}
+use Rattle.algebra.specs.PlacesLaws.{written-nothing, written-longer, written-as, written-again}
+use Rattle.layer.specs.declared.shape.Layer.{Layer}
+use Rattle.layer.specs.Shape.{transformLength, gridStep}
+use Rattle.tile.specs.declared.store.Held.{Held}
+use Rattle.tile.specs.Stored.{halfOf, lessHalf}
+use Rattle.tile.specs.Held.{RowStorable, RowStored, WithWords, RowsStorable, RowsStored}
+
+-- ---- a row
+
+module _ (half at from step : ℕ) (words : List ℕ) {xs : List ℤ} where
+  pub row-none : RowStored half at from step 0 words xs xs
+  row-none = written-nothing (λ p h. omega arith)
+
+  pub row-next : {ys : List ℤ} (i : ℕ) (x : ℤ) → at + i < length xs → RowStored half at from step i words xs ys
+      → x ≡ lessHalf half (getD words (from + i * step) 0) → RowStored half at from step (i + 1) words xs (set ys (at + i) x)
+  row-next i x l w e =
+      let back : at + i - at ≡ i = omega arith in
+      written-longer at i x l w (e ∙ ap (λ (k : ℕ). lessHalf half (getD words (from + k * step) 0)) (sym back))
+
+-- ---- the words of the rows
+
+-- those of every row or column held are among the N by N
+pub words-within : (l : Layer) (h : Held) → WithWords l h → (i : ℕ) → i < h .count → h .word + i * gridStep l < transformLength l
+words-within l h last i below =
+    let less : i ≤ h .count - 1 = omega arith in
+    omega (arith, mul-le-mul-right (gridStep l) less)
+
+-- those of a row are there, and their values fit
+pub row-storable : (l : Layer) (rows columns : Held) (words : List ℕ) → transformLength l * transformLength l ≤ length words
+    → WithWords l rows → WithWords l columns → RowsStorable l rows columns words → (r : ℕ) → r < rows .count
+    → RowStorable (halfOf (l .field)) ((rows .word + r * gridStep l) * transformLength l + columns .word) (gridStep l) (columns .count) words
+row-storable l rows columns words square in-rows in-columns fit r below i less =
+    let row : ℕ = (rows .word + r * gridStep l) * transformLength l in
+    let same : row + columns .word + i * gridStep l ≡ row + (columns .word + i * gridStep l) = add-assoc _ _ _ in
+    rw same (omega (arith, digits-lt (words-within l rows in-rows r below) (words-within l columns in-columns i less)), fit r i below less)
+
+-- half is at most that of F_5
+pub half-high : (field : ℕ) → field ≤ 5 → halfOf field ≤ 2147483648
+half-high field high =
+    let power : 2 ^ (2 ^ field) ≤ 2 ^ 32 = pow-mono (pow-mono {i = field} {j = 5} high) in
+    omega arith
+
+-- ---- rows of w places, of which `count` from `first` on are written
+
+module _ (w first count : ℕ) (room : first + count ≤ w) where
+  pub in-row : (r p : ℕ) → Run (r * w + first) count p → (p / w ≡ r) × (p % w ≡ p - r * w)
+  in-row r p h =
+      let f : ℕ = p - r * w in
+      let small : f < w = omega arith in
+      let e : p ≡ r * w + f = omega arith in
+      (ap (λ (k : ℕ). k / w) e ∙ digits-div r small, ap (λ (k : ℕ). k % w) e ∙ digits-mod r small)
+
+  to-row : (r p : ℕ) → p / w ≡ r → Run first count (p % w) → Run (r * w + first) count p
+  to-row r p e h =
+      let whole : p / w * w + p % w ≡ p = div-add-mod' p w in
+      let row : p / w * w ≡ r * w = ap (λ (k : ℕ). k * w) e in
+      (omega arith, omega arith)
+
+  -- a place of the first r + 1 rows is one of the first r rows or of row r
+  one-more : (r p : ℕ) → (p / w < r + 1) × Run first count (p % w)
+      → (((p / w < r) × Run first count (p % w)) × (Run (r * w + first) count p → ⊥)) ⊎ Run (r * w + first) count p
+  one-more r p h = go (ℕ-discrete (p / w) r)
+    where
+      go : Dec (p / w ≡ r) → (((p / w < r) × Run first count (p % w)) × (Run (r * w + first) count p → ⊥)) ⊎ Run (r * w + first) count p
+      go (yes e) = inr (to-row r p e (h .1))
+      go (no n) = inl ((omega arith, h .1), λ run. n (in-row r p run .0))
+
+-- a row more of the tile is stored
+module _ (l : Layer) (rows columns : Held) (words : List ℕ) {xs : List ℤ} (room : columns .first + columns .count ≤ l .columns) where
+  pub rows-none : RowsStored l rows columns 0 words xs xs
+  rows-none = written-nothing (λ p h. omega (arith, h .0))
+
+  pub rows-next : {ys zs : List ℤ} (r : ℕ) {half from step : ℕ} → half ≡ halfOf (l .field) → step ≡ gridStep l
+      → from ≡ (rows .word + r * gridStep l) * transformLength l + columns .word
+      → RowsStored l rows columns r words xs ys
+      → RowStored half (r * l .columns + columns .first) from step (columns .count) words ys zs
+      → RowsStored l rows columns (r + 1) words xs zs
+  rows-next r {half} {from} {step} half-is step-is from-is before row =
+      written-again before
+      (written-as row (λ p below h. h) (λ p h. h) (λ p below h. ap₂ lessHalf half-is (ap (λ (k : ℕ). getD words k 0) (place p h))))
+      (λ p below h. one-more w (columns .first) (columns .count) room r p h)
+      (λ p h. (omega (arith, h .0), h .1))
+      (λ p h. let (row, column) = in-row w (columns .first) (columns .count) room r p h in (omega arith, (omega arith, omega arith)))
+    where
+      w : ℕ
+      w = l .columns
+
+      place : (p : ℕ) → Run (r * w + columns .first) (columns .count) p
+          → from + (p - (r * w + columns .first)) * step
+          ≡ (rows .word + p / w * gridStep l) * transformLength l + (columns .word + (p % w - columns .first) * gridStep l)
+      place p h =
+          let (row, column) = in-row w (columns .first) (columns .count) room r p h in
+          let same : p - (r * w + columns .first) ≡ p % w - columns .first = omega arith in
+          rw (step-is, from-is, row, same) (add-assoc _ _ _)

@@ -1,0 +1,85 @@
+-- The words of a tile read as the direct sums. Where words represent the tile's windows and weights, their circular sums over all map
+-- channels represent the direct sums (WindowIdentity, Folding), and these are within the load limit, so that they are read back (Reading).
+use mathlib.Core.Path.{_≡_, sym, subst}
+use mathlib.Core.Logic.{_⊎_}
+use mathlib.Core.List.{List}
+use Prim.Native.Nat.{ℕ, _+_, _*_, _-_, _/_, _%_, _^_, _<_, _≤_}
+use native.Mathlib.Nat.{le-trans, mul-assoc}
+use native.Mathlib.Omega.{arith}
+use lib.IntN.{ℤ, natAbs}
+use Rattle.algebra.specs.Sum.{sumZ}
+use Rattle.algebra.specs.ResidueLaws.{Represents, represents-mul, represents-sum}
+use Rattle.fermat.specs.Field.{modulus}
+use Rattle.fermat.specs.Transform.{circular2}
+use Rattle.layer.specs.declared.shape.Layer.{Layer}
+use Rattle.layer.specs.Shape.{transformLength, tileSide, gridStep, channelOf, rowOf, columnOf, tileOf}
+use Rattle.layer.specs.Direct.{directAt}
+use Rattle.layer.specs.Load.{planeOf, loadLimit}
+use Rattle.layer.specs.LoadLaws.{peak-bounds, load-fits, direct-load}
+use Rattle.layer.specs.ChecksLaws.{Planned, planned, Callable}
+use Rattle.layer.specs.TileSizes.{length-low}
+use Rattle.layer.specs.TileLaws.{InTile, tileChannel, tileRow, tileColumn, planned-tiled, to-tile, channel-lt}
+use Rattle.tile.specs.Window.{firstRow, firstColumn, windowAt, weightAt, channelSum, rowInTile, columnInTile}
+use Rattle.tile.proofs.WindowIdentity.{tile-sum}
+use Rattle.tile.proofs.Folding.{folding}
+use Rattle.tile.proofs.Reading.{Moved, field-reading}
+
+-- ---- the row and the column of a place, K − 1 further on, lie within the window
+
+in-window : (N K x from : ℕ) → 1 ≤ K → K ≤ N → from ≤ x → x < from + (N - K + 1) → K - 1 + (x - from) < N
+in-window N K x from some h low high = omega arith
+
+module _ (l : Layer) (plan : Planned l) where
+  short : l .side ≤ transformLength l
+  short = omega (arith, plan .shape .side-high, length-low l (plan .shape))
+
+  pub row-in-window : (t p : ℕ) → InTile l t p → l .side - 1 + rowInTile l t p < transformLength l
+  row-in-window t p in-tile =
+      in-window (transformLength l) (l .side) (rowOf l p * gridStep l) (tileRow l t * tileSide l) (plan .shape .side-low) short
+      (in-tile .row-low) (in-tile .row-high)
+
+  pub column-in-window : (t p : ℕ) → InTile l t p → l .side - 1 + columnInTile l t p < transformLength l
+  column-in-window t p in-tile =
+      in-window (transformLength l) (l .side) (columnOf l p * gridStep l) (tileColumn l t * tileSide l) (plan .shape .side-low) short
+      (in-tile .column-low) (in-tile .column-high)
+
+  -- one map channel: words for its window and for the weights, and the circular sum of both
+  module _ (map kernel : List ℤ) (m row column c : ℕ) (window weight : ℕ → ℕ → ℕ)
+      (windows : (u v : ℕ) → u < transformLength l → v < transformLength l
+      → Represents (modulus (l .field)) (windowAt l map c row column u v) (window u v))
+      (weights : (a b : ℕ) → a < l .side → b < l .side → Represents (modulus (l .field)) (weightAt l kernel (planeOf l m c) a b) (weight a b))
+      (empty : (a b : ℕ) → (l .side ≤ a) ⊎ (l .side ≤ b) → weight a b ≡ 0) where
+    pub channel-represents : (i j : ℕ) → l .side - 1 ≤ i → i < transformLength l → l .side - 1 ≤ j → j < transformLength l
+        → Represents (modulus (l .field)) (channelSum l map kernel m row column c i j) (circular2 (transformLength l) weight window i j)
+    unfolding channelSum
+    channel-represents i j row-low row-high column-low column-high =
+        rw (folding (transformLength l) (l .side) short weight window empty i j row-low row-high column-low column-high)
+        (represents-sum (l .side) (λ a k. represents-sum (l .side) (λ b h.
+        represents-mul (weights a b k h) (windows (i - a) (j - b) (omega arith) (omega arith)))))
+
+-- ---- the sum over all map channels
+
+module _ (l : Layer) (map kernel : List ℤ) (output scratch t : ℕ) (callable : Callable l map kernel output scratch) where
+  plan : Planned l
+  plan = planned l (callable .plan)
+
+  -- the direct sums are within the load limit
+  direct-fits : (p : ℕ) → p < output → natAbs (directAt l map kernel p) ≤ loadLimit (l .field)
+  unfolding directAt
+  direct-fits p h =
+      le-trans
+      (direct-load l map kernel (plan .shape .stride-low) (peak-bounds (l .peak) map (callable .values))
+      (channelOf l p) (l .top + rowOf l p) (l .left + columnOf l p))
+      (load-fits l kernel (callable .loads) (channelOf l p) (channel-lt l (planned-tiled l plan) p place))
+    where
+      place : p < l .outputs * (l .rows * l .columns)
+      place = omega (arith, h, callable .output-length, mul-assoc (l .outputs) (l .rows) (l .columns))
+
+  -- a word for that sum at place p of tile t reads as the direct sum
+  pub tile-reads : {v : ℕ} (p : ℕ) → p < output → tileOf l p ≡ t
+      → Represents (modulus (l .field)) (sumZ (l .inputs) (λ c.
+      channelSum l map kernel (tileChannel l t) (firstRow l t) (firstColumn l t) c (l .side - 1 + rowInTile l t p) (l .side - 1 + columnInTile l t p))) v
+      → Moved (2 ^ (2 ^ l .field) / 2) 2147483647 (directAt l map kernel p) ((v + 2 ^ (2 ^ l .field) / 2) % modulus (l .field))
+  tile-reads {v} p h e sum =
+      field-reading (l .field) (plan .shape .field-low) (plan .shape .field-high) (direct-fits p h)
+      (subst (λ z. Represents (modulus (l .field)) z v) (sym (tile-sum l map kernel plan t p (to-tile l (planned-tiled l plan) t p e))) sum)

@@ -1,0 +1,228 @@
+-- The kernel's part and the window's part are lent, and the product of what comes back is added. Adding has the laws.
+use mathlib.Core.Path.{_≡_, ap, _∙_, subst}
+use mathlib.Core.List.{List}
+use Prim.Native.Nat.{ℕ, _+_, _*_, _-_, _≤_, _<_}
+use native.Mathlib.Nat.{mul-le-mul}
+use native.Mathlib.Omega.{arith}
+use lib.ListN.{length, drop, length-drop}
+use lib.Seq.{length-take-le}
+use borrow.Author.Needs.{needs}
+use borrow.Rule.Slice.PartMut.{midOf, putMid, same-len-mid}
+use denote.Ref.{now}
+use Rattle.layer.specs.Load.{planeOf}
+use Rattle.layer.specs.LoadLaws.{plane-below}
+use Rattle.layer.specs.TileSizes.{length-high}
+use Rattle.tile.specs.Channel.{area, KernelReady}
+use Rattle.tile.proofs.Adding.{Lending, Transformed, transformed, accumulate-asks, added-next}
+use Rattle.tile.proofs.channel.add_channel.Statement.{statement}
+use Rattle.tile.proofs.channel.add_channel.Tie as tie
+
+-- the sizes
+module _ (c : tie.After-points-of) where
+  abbrev start : tie.Start
+  start = c .before .before
+
+  abbrev n : ℕ
+  n = c .points-of .result
+
+  area-is : n * n ≡ area (start .args .layer)
+  area-is = ap (λ (i : ℕ). i * i) (c .points-of .ensures)
+
+  area-high : n * n ≤ 4096
+  area-high =
+      let most : n ≤ 64 = omega (arith, c .points-of .ensures, length-high (start .args .layer) (start .pre .0 .0 .plan .shape)) in
+      mul-le-mul most most
+
+  room : 3 * (n * n) ≤ length (now (start .args .scratch))
+  room = omega (arith, area-is, start .pre .0 .0 .scratch-low)
+
+points-of-requires : tie.Need-points-of-requires
+points-of-requires c κs = search needs
+
+mul-one : tie.Need-mul-one
+mul-one c = omega (arith, area-high c)
+
+mul-two : tie.Need-mul-two
+mul-two c = omega (arith, area-high c)
+
+mul-three : tie.Need-mul-three
+mul-three c = omega (arith, area-high c)
+
+planes-to-requires : tie.Need-planes-to-requires
+planes-to-requires c κs =
+    let s = start c in
+    let r = s .pre .0 .0 .plan .shape in
+    (omega (arith, s .pre .0 .1 .channel, r .outputs-high), r .inputs-high)
+
+-- the plane of the kernel
+module _ (c : tie.After-planes-to) where
+  abbrev plane : ℕ
+  plane = c .planes-to .result .first + start (c .before) .args .c * c .planes-to .result .step
+
+  plane-is : let a = start (c .before) .args in plane ≡ planeOf (a .layer) (a .origin .channel) (a .c)
+  plane-is = c .planes-to .ensures (start (c .before) .args .c)
+
+  plane-lt : let l = start (c .before) .args .layer in plane < l .outputs * l .inputs
+  plane-lt =
+      let s = start (c .before) in
+      omega (arith, plane-is, plane-below (s .args .layer) (s .args .origin .channel) (s .args .c) (s .pre .0 .1 .channel) (s .pre .0 .2))
+
+  plane-high : plane < 4096
+  plane-high =
+      let r = start (c .before) .pre .0 .0 .plan .shape in
+      omega (arith, plane-lt, mul-le-mul (r .outputs-high) (r .inputs-high))
+
+mul-plane : tie.Need-mul-plane
+mul-plane c = omega (arith, plane-high (c .before))
+
+add-plane : tie.Need-add-plane
+add-plane c = omega (arith, plane-high (c .before .before))
+
+mul-kernel-spectrum : tie.Need-mul-kernel-spectrum
+mul-kernel-spectrum c = omega (arith, area-high (c .before .before .before))
+
+sub-kernel-spectrum : tie.Need-sub-kernel-spectrum
+sub-kernel-spectrum c = search needs
+
+part-kernel-spectrum-start : tie.Need-part-kernel-spectrum-start
+part-kernel-spectrum-start c = search needs
+
+part-kernel-spectrum-end : tie.Need-part-kernel-spectrum-end
+part-kernel-spectrum-end c = omega (arith, room (c .before .before .before))
+
+-- the kernel's part is lent
+part-length : (a k : ℕ) (xs : List ℕ) → a + k ≤ length xs → length (midOf a k xs) ≡ k
+part-length a k xs le = length-take-le k (drop a xs) (omega (arith, length-drop a xs))
+
+kernel-part : (c : tie.After-points-of) → length (midOf (n c * n c) (3 * (n c * n c) - n c * n c) (now (start c .args .scratch))) ≡ 2 * area (start c .args .layer)
+kernel-part c =
+    part-length (n c * n c) (3 * (n c * n c) - n c * n c) (now (start c .args .scratch)) (omega (arith, room c)) ∙ omega (arith, area-is c)
+
+kernel-spectrum-requires : tie.Need-kernel-spectrum-requires
+kernel-spectrum-requires c κs =
+    let planes = c .before .before .before in
+    let p = planes .before in
+    let s = start p in
+    let lent = s .pre .0 .0 in
+    ((lent .plan .shape, kernel-part p), (lent .kernel-length, plane-lt planes))
+
+-- and comes back
+module _ (c : tie.After-kernel-spectrum) where
+  abbrev sizes : tie.After-points-of
+  sizes = c .before .before .before .before .before
+
+  abbrev ks : List ℕ
+  ks = c .kernel-spectrum .last .0
+
+  kernel-length : length ks ≡ 2 * area (start sizes .args .layer)
+  kernel-length = c .kernel-spectrum .kept .0 ∙ kernel-part sizes
+
+  abbrev one : ℕ
+  one = n sizes * n sizes
+
+  scratch-room : 3 * one ≤ length (putMid one (3 * one - one) (now (start sizes .args .scratch)) ks)
+  scratch-room =
+      omega (arith, room sizes, same-len-mid one (3 * one - one) (now (start sizes .args .scratch)) ks (c .kernel-spectrum .kept .0))
+
+  window-part : length (midOf (2 * one) (3 * one - 2 * one) (putMid one (3 * one - one) (now (start sizes .args .scratch)) ks))
+      ≡ area (start sizes .args .layer)
+  window-part = part-length (2 * one) (3 * one - 2 * one) _ (omega (arith, scratch-room)) ∙ omega (arith, area-is sizes)
+
+mul-window-spectrum : tie.Need-mul-window-spectrum
+mul-window-spectrum c = omega (arith, area-high (sizes (c .before .before)))
+
+sub-window-spectrum : tie.Need-sub-window-spectrum
+sub-window-spectrum c = omega arith
+
+part-window-spectrum-start : tie.Need-part-window-spectrum-start
+part-window-spectrum-start c = omega arith
+
+part-window-spectrum-end : tie.Need-part-window-spectrum-end
+part-window-spectrum-end c = omega (arith, scratch-room (c .before .before))
+
+window-spectrum-requires : tie.Need-window-spectrum-requires
+window-spectrum-requires c κs =
+    let k = c .before .before .before in
+    let s = start (sizes k) in
+    let lent = s .pre .0 .0 in
+    ((lent .plan .shape, window-part k), (lent .map-length, s .pre .0 .2, s .pre .0 .1 .row, s .pre .0 .1 .column))
+
+-- the window's part comes back: both transforms stand in scratch
+module _ (c : tie.After-window-spectrum) where
+  abbrev first : tie.After-kernel-spectrum
+  first = c .before .before .before .before
+
+  abbrev given : tie.Start
+  given = start (sizes first)
+
+  abbrev ws : List ℕ
+  ws = c .window-spectrum .last .0
+
+  lending : let a = n (sizes first) * n (sizes first) in
+      Lending (area (given .args .layer)) a (3 * a - a) (2 * a) (3 * a - 2 * a) (now (given .args .scratch)) (ks first) ws
+  lending =
+      let is = area-is (sizes first) in
+      record {
+        kernel-at = is;
+        kernel-count = omega arith;
+        window-at = omega arith;
+        window-count = omega arith;
+        room = given .pre .0 .0 .scratch-low;
+        kernel-length = kernel-length first;
+        window-length = c .window-spectrum .kept .0 ∙ window-part first;
+      }
+
+  both : let g = given .args in
+      let a = n (sizes first) * n (sizes first) in
+      Transformed (g .layer) (now (g .map)) (now (g .kernel)) (g .origin) (g .c) (now (g .scratch))
+      (putMid (2 * a) (3 * a - 2 * a) (putMid a (3 * a - a) (now (g .scratch)) (ks first)) ws)
+  both =
+      let g = given .args in
+      let planes = first .before .before .before .before in
+      transformed (g .layer) (now (g .map)) (now (g .kernel)) (g .origin) lending
+      (subst (λ (p : ℕ). KernelReady (g .layer) (now (g .kernel)) p (ks first)) (plane-is planes) (first .kernel-spectrum .ensures))
+      (c .window-spectrum .ensures)
+
+accumulate-requires : tie.Need-accumulate-requires
+accumulate-requires c κs =
+    let w = c .before .before .before in
+    let s = given w in
+    let g = s .args in
+    accumulate-asks (g .layer) (now (g .map)) (now (g .kernel)) (g .origin) (s .pre .0 .0 .plan) (both w) (area-is (sizes (first w))) (s .pre .0 .2) (s .pre .1)
+
+same-length : tie.Need-same-length
+same-length c = search needs
+
+returns : tie.Need-returns
+returns c =
+    let last = c .before .before in
+    let w = last .before .before .before .before in
+    let s = given w in
+    let g = s .args in
+    added-next (g .layer) (now (g .map)) (now (g .kernel)) (g .origin) (s .pre .0 .0 .plan) (both w) (area-is (sizes (first w)))
+    (last .accumulate .ensures) (last .accumulate .kept .0)
+
+pub add-channel-spec : {M : Type 1} → statement M
+add-channel-spec =
+    tie.close
+    (tie.spec
+    points-of-requires
+    mul-one
+    mul-two
+    mul-three
+    planes-to-requires
+    mul-plane
+    add-plane
+    mul-kernel-spectrum
+    sub-kernel-spectrum
+    part-kernel-spectrum-start
+    part-kernel-spectrum-end
+    kernel-spectrum-requires
+    mul-window-spectrum
+    sub-window-spectrum
+    part-window-spectrum-start
+    part-window-spectrum-end
+    window-spectrum-requires
+    accumulate-requires
+    same-length
+    returns)

@@ -1,0 +1,89 @@
+-- The plane is loaded into the corner, which is lent, and transformed. KernelReady has what each step asks and leaves.
+use Prim.Native.Nat.{_+_, _*_, _-_}
+use native.Mathlib.Omega.{arith}
+use borrow.Author.Needs.{needs}
+use denote.Ref.{now}
+use Rattle.tile.proofs.KernelReady.{Part, area-high, inside, part-le, part-length, cornered, kernel-ready}
+use Rattle.tile.proofs.channel.kernel_spectrum.Statement.{statement}
+use Rattle.tile.proofs.channel.kernel_spectrum.Tie as tie
+
+-- the part that is lent
+module _ (c : tie.After-points-of) where
+  abbrev start : tie.Start
+  start = c .before .before
+
+  part : let n = c .points-of .result in
+      let k = start .args .layer .side in
+      Part (start .args .layer) n (n * n + n * k - n * n) (now (start .args .words))
+  part = record {
+    range = start .pre .0 .0;
+    side = c .points-of .ensures;
+    count = omega arith;
+    whole = start .pre .0 .1;
+  }
+
+points-of-requires : tie.Need-points-of-requires
+points-of-requires c κs = search needs
+
+mul-from : tie.Need-mul-from
+mul-from c = omega (arith, area-high (part c))
+
+mul-to : tie.Need-mul-to
+mul-to c = omega (arith, area-high (part (c .before)), inside (part (c .before)))
+
+add-to : tie.Need-add-to
+add-to c = omega (arith, area-high (part (c .before)), inside (part (c .before)))
+
+mul-load-kernel : tie.Need-mul-load-kernel
+mul-load-kernel c = omega (arith, area-high (part (c .before)))
+
+sub-load-kernel : tie.Need-sub-load-kernel
+sub-load-kernel c = search needs
+
+part-load-kernel-start : tie.Need-part-load-kernel-start
+part-load-kernel-start c = search needs
+
+part-load-kernel-end : tie.Need-part-load-kernel-end
+part-load-kernel-end c = omega (arith, part-le (part (c .before)))
+
+load-kernel-requires : tie.Need-load-kernel-requires
+load-kernel-requires c κs =
+    let p = part (c .before .before) in
+    let s = start (c .before .before) in
+    ((s .pre .0 .0, part-length p), s .pre .1)
+
+corner-spectrum-requires : tie.Need-corner-spectrum-requires
+corner-spectrum-requires c κs =
+    let loaded = c .before .before .before in
+    let p = part (loaded .before .before .before) in (
+      start (loaded .before .before .before) .pre .0 .0 .field-high,
+      cornered p (loaded .load-kernel .last .0) (loaded .load-kernel .kept .0) (loaded .load-kernel .ensures),
+    )
+
+same-length : tie.Need-same-length
+same-length c = search needs
+
+returns : tie.Need-returns
+returns c =
+    let last = c .before .before in
+    let loaded = last .before .before .before .before in
+    let p = part (loaded .before .before .before) in
+    kernel-ready p (loaded .load-kernel .last .0) (loaded .load-kernel .kept .0) (loaded .load-kernel .ensures)
+    (last .corner-spectrum .last .0) (last .corner-spectrum .ensures .0) (last .corner-spectrum .ensures .1)
+
+pub kernel-spectrum-spec : {M : Type 1} → statement M
+kernel-spectrum-spec =
+    tie.close
+    (tie.spec
+    points-of-requires
+    mul-from
+    mul-to
+    add-to
+    mul-load-kernel
+    sub-load-kernel
+    part-load-kernel-start
+    part-load-kernel-end
+    load-kernel-requires
+    corner-spectrum-requires
+    same-length
+    returns)

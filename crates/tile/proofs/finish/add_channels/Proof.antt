@@ -1,0 +1,80 @@
+-- Map channel after map channel is added; at the end all are.
+use mathlib.Core.Path.{_≡_, refl, subst}
+use Prim.Native.Nat.{ℕ, _-_, _≤_}
+use native.Mathlib.Omega.{arith}
+use borrow.Author.Needs.{needs}
+use denote.Ref.{now}
+use Rattle.tile.specs.Channel.{Added}
+use Rattle.tile.proofs.Adding.{added-none}
+use Rattle.tile.proofs.finish.add_channels.Statement.{statement}
+use Rattle.tile.proofs.finish.add_channels.Tie as tie
+
+abbrev Inv-loop : tie.InvT-loop
+Inv-loop scratch₀ layer origin map kernel c₀ scratch c = (c ≤ layer .inputs) × Added layer map kernel origin c scratch₀ scratch
+
+abbrev μ-loop : tie.MeasureT-loop
+μ-loop scratch₀ layer origin map kernel c₀ scratch c = layer .inputs - c
+
+loop-holds : tie.Need-loop-holds Inv-loop μ-loop
+loop-holds c =
+    let s = c .before in
+    let g = s .args in (
+      omega arith,
+      added-none (g .layer) (now (g .map)) (now (g .kernel)) (g .origin) (record { size = refl; before = λ p h. refl; after = λ p h. refl }) (s .pre .1),
+    )
+
+add-channel-requires : tie.Need-add-channel-requires Inv-loop μ-loop
+add-channel-requires c κs =
+    let loop = c .before .before .before .loop in
+    let s = c .before .before .before .before .before in
+    let lent = s .pre .0 .0 in
+    let sum = loop .inv .1 in (
+      (
+        record {
+          plan = lent .plan;
+          map-length = lent .map-length;
+          kernel-length = lent .kernel-length;
+          scratch-low = omega (arith, sum .changed .size, lent .scratch-low);
+        },
+        s .pre .0 .1,
+        omega arith,
+      ),
+      sum .bound,
+    )
+
+add-c : tie.Need-add-c Inv-loop μ-loop
+add-c c = search needs
+
+loop-less : tie.Need-loop-less Inv-loop μ-loop
+loop-less c = search needs
+
+loop-again : tie.Need-loop-again Inv-loop μ-loop
+loop-again c =
+    let s = c .before .before .before .before .before .before .before .before in
+    let loop = c .before .before .before .before .before .before .loop in
+    (omega arith, c .before .before .add-channel .ensures (now (s .args .scratch)) (loop .inv .1))
+
+same-length : tie.Need-same-length Inv-loop μ-loop
+same-length c = search needs
+
+returns : tie.Need-returns Inv-loop μ-loop
+returns c =
+    let s = c .before .before .before .before in
+    let loop = c .before .before .loop in
+    let g = s .args in
+    let e : loop .c ≡ g .layer .inputs = omega arith in
+    subst (λ (count : ℕ). Added (g .layer) (now (g .map)) (now (g .kernel)) (g .origin) count (now (g .scratch)) (loop .scratch)) e (loop .inv .1)
+
+pub add-channels-spec : {M : Type 1} → statement M
+add-channels-spec =
+    tie.close
+    (tie.spec
+    Inv-loop
+    μ-loop
+    loop-holds
+    add-channel-requires
+    add-c
+    loop-less
+    loop-again
+    same-length
+    returns)

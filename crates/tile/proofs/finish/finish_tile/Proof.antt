@@ -1,0 +1,193 @@
+-- The first part is cleared, all map channels are added, the sum is taken back to residues, and these are stored. Finishing has the law.
+use mathlib.Core.Path.{_≡_, ap, _∙_}
+use mathlib.Core.List.{List, _++_}
+use Prim.Native.Nat.{ℕ, _+_, _*_, _-_, _≤_, _<_}
+use native.Mathlib.Nat.{mul-le-mul}
+use native.Mathlib.Omega.{arith}
+use lib.ListN.{length, take, length-append}
+use lib.Seq.{length-take-le, getD-take}
+use borrow.Author.Needs.{needs}
+use borrow.Rule.Slice.PartMut.{postOf}
+use denote.Ref.{now}
+use Rattle.algebra.specs.PlacesLaws.{written-as, changed-written, changed-part, changed-again}
+use Rattle.layer.specs.Shape.{tileOf}
+use Rattle.layer.specs.Direct.{directAt}
+use Rattle.layer.specs.ChecksLaws.{Planned, planned}
+use Rattle.layer.specs.TileSizes.{length-high}
+use Rattle.tile.specs.Channel.{area}
+use Rattle.tile.specs.Stored.{halfOf, wordOf, storedAt, Storable}
+use Rattle.tile.proofs.Finishing.{At, finished}
+use Rattle.tile.proofs.finish.finish_tile.Statement.{statement}
+use Rattle.tile.proofs.finish.finish_tile.Tie as tie
+
+-- what rules 1 to 9 give
+plan : (s : tie.Start) → Planned (s .args .layer)
+plan s = planned (s .args .layer) (s .pre .0 .plan)
+
+-- the sizes
+module _ (c : tie.After-points-of) where
+  abbrev start : tie.Start
+  start = c .before .before
+
+  abbrev one : ℕ
+  one = c .points-of .result * c .points-of .result
+
+  area-is : one ≡ area (start .args .layer)
+  area-is = ap (λ (i : ℕ). i * i) (c .points-of .ensures)
+
+  area-high : one ≤ 4096
+  area-high =
+      let most : c .points-of .result ≤ 64 = omega (arith, c .points-of .ensures, length-high (start .args .layer) (plan start .shape)) in
+      mul-le-mul most most
+
+  room : 3 * one ≤ length (now (start .args .scratch))
+  room = omega (arith, area-is, start .pre .0 .scratch-low)
+
+points-of-requires : tie.Need-points-of-requires
+points-of-requires c κs = plan (c .before) .shape .field-high
+
+mul-one : tie.Need-mul-one
+mul-one c = omega (arith, area-high c)
+
+origin-of-requires : tie.Need-origin-of-requires
+origin-of-requires c κs = (plan (start c), start c .pre .1)
+
+clear-requires : tie.Need-clear-requires
+clear-requires c κs = (omega arith, omega (arith, room (c .before .before)))
+
+add-channels-requires : tie.Need-add-channels-requires
+add-channels-requires c κs =
+    let cleared = c .before .before .before in
+    let origin = cleared .before .before in
+    let sizes = origin .before in
+    let s = start sizes in
+    let none = cleared .clear .ensures in (
+      (
+        record {
+          plan = plan s;
+          map-length = s .pre .0 .map-length;
+          kernel-length = s .pre .0 .kernel-length;
+          scratch-low = omega (arith, none .size, s .pre .0 .scratch-low);
+        },
+        origin .origin-of .ensures .1,
+      ),
+      λ i h. none .here i (omega (arith, room sizes, area-is sizes)) (omega arith, omega (arith, area-is sizes)),
+    )
+
+-- scratch with the sum over all map channels
+module _ (c : tie.After-add-channels) where
+  abbrev sizes : tie.After-points-of
+  sizes = c .before .before .before .before .before .before .before
+
+  abbrev given : tie.Start
+  given = start sizes
+
+  abbrev cleared : tie.After-clear
+  cleared = c .before .before .before .before
+
+  abbrev ys : List ℕ
+  ys = c .add-channels .last .0
+
+  abbrev lent : List ℕ
+  lent = take (one sizes - 0) ys
+
+  length-is : length ys ≡ length (now (given .args .scratch))
+  length-is = c .add-channels .ensures .changed .size ∙ cleared .clear .ensures .size
+
+  lent-le : one sizes - 0 ≤ length ys
+  lent-le = omega (arith, length-is, room sizes)
+
+  lent-length : length lent ≡ area (given .args .layer)
+  lent-length = length-take-le (one sizes - 0) ys lent-le ∙ omega (arith, area-is sizes)
+
+  at-tile : At (given .args .layer) (given .args .tile) (cleared .before .before .origin-of .result)
+  at-tile =
+      let is = cleared .before .before .origin-of .ensures .0 in
+      record { channel = is .0; row = is .1; column = is .2 }
+
+sub-recover-tile : tie.Need-sub-recover-tile
+sub-recover-tile c = omega arith
+
+part-recover-tile-start : tie.Need-part-recover-tile-start
+part-recover-tile-start c = omega arith
+
+part-recover-tile-end : tie.Need-part-recover-tile-end
+part-recover-tile-end c = omega (arith, lent-le (c .before .before))
+
+recover-tile-requires : tie.Need-recover-tile-requires
+recover-tile-requires c κs =
+    let sum = c .before .before .before in
+    let r = plan (given sum) .shape in
+    (r .field-low, r .field-high, lent-length sum)
+
+-- the tile's words, then the rest of scratch
+module _ (c : tie.After-recover-tile) where
+  abbrev sum : tie.After-add-channels
+  sum = c .before .before .before .before
+
+  abbrev source : tie.Start
+  source = given sum
+
+  abbrev rs : List ℕ
+  rs = c .recover-tile .last .0
+
+  abbrev rest : List ℕ
+  rest = postOf 0 (one (sizes sum) - 0) (ys sum)
+
+  words-length : length rs ≡ area (source .args .layer)
+  words-length = c .recover-tile .kept .0 ∙ lent-length sum
+
+  -- what Finishing says of a place that the tile holds
+  held : let g = source .args in
+      (p : ℕ) → p < length (now (g .output)) → tileOf (g .layer) p ≡ g .tile
+      → Storable (halfOf (g .layer .field)) (wordOf (g .layer) (g .tile) p (rs ++ rest))
+      × (storedAt (g .layer) (g .tile) (rs ++ rest) p ≡ directAt (g .layer) (now (g .map)) (now (g .kernel)) p)
+  held =
+      let g = source .args in
+      finished (g .layer) (now (g .map)) (now (g .kernel)) (length (now (g .output))) (length (now (g .scratch))) (g .tile) (source .pre .0)
+      _ (at-tile sum) _ (ys sum) (lent sum) rs rest (sum .add-channels .ensures)
+      (λ i h. getD-take (one (sizes sum) - 0) (ys sum) i 0 (omega (arith, area-is (sizes sum)))) (c .recover-tile .ensures) words-length
+
+store-tile-requires : tie.Need-store-tile-requires
+store-tile-requires c κs =
+    let tile = c .before .before .before .before in
+    let s = source tile in
+    ((plan s, s .pre .0 .output-length, s .pre .1), (omega (arith, words-length tile, length-append (rs tile) (rest tile)), λ p below e. held tile p below e .0))
+
+same-length : tie.Need-same-length
+same-length c = search needs
+
+same-length-2 : tie.Need-same-length-2
+same-length-2 c = search needs
+
+returns : tie.Need-returns
+returns c =
+    let tile = c .before .before .before .before .before .before in
+    let all = sum tile in
+    let k = one (sizes all) - 0 in
+    let a = area (source tile .args .layer) in
+    let none = changed-written 0 k (cleared all .clear .ensures) in
+    let back = changed-part (ys all) (rs tile) 0 k (omega (arith, lent-le all)) (omega (arith, words-length tile, area-is (sizes all))) in
+    let small : 0 + k ≤ 3 * a = omega (arith, area-is (sizes all)) in (
+      written-as (c .before .store-tile .ensures) (λ p l h. h) (λ p h. h) (λ p below e. held tile p below e .1),
+      changed-again 0 (3 * a) (omega arith) (omega arith) (omega arith) small
+          (changed-again 0 (3 * a) (omega arith) (omega arith) small (omega arith) none (all .add-channels .ensures .changed)) back,
+    )
+
+pub finish-tile-spec : {M : Type 1} → statement M
+finish-tile-spec =
+    tie.close
+    (tie.spec
+    points-of-requires
+    mul-one
+    origin-of-requires
+    clear-requires
+    add-channels-requires
+    sub-recover-tile
+    part-recover-tile-start
+    part-recover-tile-end
+    recover-tile-requires
+    store-tile-requires
+    same-length
+    same-length-2
+    returns)

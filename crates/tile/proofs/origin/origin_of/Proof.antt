@@ -1,0 +1,80 @@
+-- `origin_of` takes the place of the tile to the grid. The tiles begin within what the crop keeps, so no coordinate is large.
+use mathlib.Core.Path.{ap, _∙_}
+use Prim.Native.Nat.{ℕ, _+_, _*_, _-_, _≤_, _<_}
+use native.Mathlib.Nat.{mul-le-mul, mod-lt}
+use native.Mathlib.Omega.{arith}
+use borrow.Author.Needs.{needs}
+use Rattle.layer.specs.declared.shape.Layer.{Layer}
+use Rattle.layer.specs.Shape.{tileSide, gridStep, span, tilesAcross, tileRows, tileColumns}
+use Rattle.layer.specs.ChecksLaws.{InRange, Planned}
+use Rattle.layer.specs.TileSizes.{rows-wanted, columns-wanted, across-high, tile-side-low}
+use Rattle.layer.specs.TileLaws.{planned-tiled, line-some, span-is, step-range, across-starts, tileRow, tileColumn, tile-channel-lt}
+use Rattle.tile.proofs.origin.origin_of.Statement.{statement}
+use Rattle.tile.proofs.origin.origin_of.Tie as tie
+
+-- the grid place of a tile that begins before the last of `count` outputs
+start-high : (l : Layer) (count first index : ℕ) → InRange l → 1 ≤ count → first + count ≤ 2055
+    → index < tilesAcross (tileSide l) (span l count) → first * gridStep l + index * tileSide l ≤ 10000
+start-high l count first index r some end before =
+    let last : (first + (count - 1)) * gridStep l ≤ 2054 * 4 = mul-le-mul {n₂ = 2054} {m₂ = 4} (omega arith) (step-range l r .1) in
+    let begins : index * tileSide l < span l count = across-starts (tileSide l) (span l count) index (omega (arith, tile-side-low l r)) before in
+    omega (arith, span-is l count some)
+
+module _ (l : Layer) (plan : Planned l) (t : ℕ) where
+  row-lt : tileRow l t < tileRows l
+  row-lt = mod-lt _ (line-some l (planned-tiled l plan) (l .rows) (plan .rows-low))
+
+  column-lt : tileColumn l t < tileColumns l
+  column-lt = mod-lt t (line-some l (planned-tiled l plan) (l .columns) (plan .columns-low))
+
+place-of-requires : tie.Need-place-of-requires
+place-of-requires c κs = search needs
+
+grid-start-requires : tie.Need-grid-start-requires
+grid-start-requires c κs =
+    let s = c .before in
+    let l = s .args .layer in
+    let plan = s .pre .0 in (
+      plan .shape,
+      omega (arith, plan .rows-end, plan .full-height-high),
+      omega (arith, c .place-of .ensures .1, row-lt l plan (s .args .tile), across-high l (l .rows) (rows-wanted l plan)),
+    )
+
+grid-start-requires-2 : tie.Need-grid-start-requires-2
+grid-start-requires-2 c κs =
+    let s = c .before .before in
+    let l = s .args .layer in
+    let plan = s .pre .0 in (
+      plan .shape,
+      omega (arith, plan .columns-end, plan .full-width-high),
+      omega (arith, c .before .place-of .ensures .2, column-lt l plan (s .args .tile), across-high l (l .columns) (columns-wanted l plan)),
+    )
+
+returns : tie.Need-returns
+returns c =
+    let s = c .before .before .before in
+    let l = s .args .layer in
+    let t = s .args .tile in
+    let plan = s .pre .0 in
+    let place = c .before .before .place-of .ensures in
+    let row = c .before .grid-start .ensures ∙ ap (λ (i : ℕ). l .top * gridStep l + i * tileSide l) (place .1) in
+    let column = c .grid-start2 .ensures ∙ ap (λ (i : ℕ). l .left * gridStep l + i * tileSide l) (place .2) in (
+      (place .0, row, column),
+      record {
+        channel = omega (arith, place .0, tile-channel-lt l (planned-tiled l plan) t (s .pre .1));
+        row = omega (
+          arith,
+          row,
+          start-high l (l .rows) (l .top) (tileRow l t) (plan .shape) (plan .rows-low) (omega (arith, plan .rows-end, plan .full-height-high)) (row-lt l plan t),
+        );
+        column = omega (
+          arith,
+          column,
+          start-high l (l .columns) (l .left) (tileColumn l t) (plan .shape) (plan .columns-low) (omega (arith, plan .columns-end, plan .full-width-high))
+              (column-lt l plan t),
+        );
+      },
+    )
+
+pub origin-of-spec : {M : Type 1} → statement M
+origin-of-spec = tie.close (tie.spec place-of-requires grid-start-requires grid-start-requires-2 returns)

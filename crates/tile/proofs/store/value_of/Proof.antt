@@ -1,0 +1,54 @@
+-- `value_of` subtracts in 64 bits, where both numbers fit; the difference fits 32.
+use mathlib.Core.Path.{_≡_}
+use mathlib.Core.Bool.{Bool, true, false, cond}
+use Prim.Native.Nat.{ℕ, zero, suc, _+_, _-_, _≤_}
+use native.Mathlib.Omega.{arith}
+use lib.Dec.{ltb}
+use lib.IntN.{pos, negsuc, _-ℤ_}
+use lib.Signed.{mag}
+use mir.Syntax.{w32, w64}
+use mir.Val.{toZ, SFits}
+use mir.Facts.{toZ-pos, toZ-ofZ, sfits-widen}
+use borrow.Author.Needs.{needs}
+use Rattle.tile.specs.Stored.{lessHalf}
+use Rattle.tile.proofs.store.value_of.Statement.{statement}
+use Rattle.tile.proofs.store.value_of.Tie as tie
+
+difference-small : (a b n : ℕ) → a ≤ b + n → b ≤ n + 1 → mag (pos a -ℤ pos b) ≤ n
+difference-small a zero n h k = omega arith
+difference-small a (suc b) n h k = go (ltb a (suc b))
+  where
+    go : (t : Bool) → mag (cond t (negsuc (suc b - suc a)) (pos (a - suc b))) ≤ n
+    go true = omega arith
+    go false = omega arith
+
+cast-result : tie.Need-cast-result
+cast-result c = search needs
+
+cast-result-2 : tie.Need-cast-result-2
+cast-result-2 c = search needs
+
+fits : (c : tie.Start) → SFits w32 (lessHalf (c .args .half) (c .args .word))
+fits c = record { sfits = omega (arith, difference-small (c .args .word) (c .args .half) 2147483647 (c .pre .1) (c .pre .0)) }
+
+wide : (c : tie.Start) → SFits w64 (lessHalf (c .args .half) (c .args .word))
+wide c = sfits-widen {w = w32} tt (fits c)
+
+-- both numbers as they are read in 64 bits
+word-read : (c : tie.Start) → toZ w64 (c .args .word) ≡ pos (c .args .word)
+word-read c = toZ-pos w64 (omega (arith, c .pre))
+
+half-read : (c : tie.Start) → toZ w64 (c .args .half) ≡ pos (c .args .half)
+half-read c = toZ-pos w64 (omega (arith, c .pre))
+
+sub-result : tie.Need-sub-result
+sub-result c = rw (word-read c, half-read c) (wide c)
+
+cast-result-3 : tie.Need-cast-result-3
+cast-result-3 c = rw (word-read c, half-read c, toZ-ofZ (wide c)) (fits c)
+
+returns : tie.Need-returns
+returns c = rw (word-read c, half-read c, toZ-ofZ (wide c), toZ-ofZ (fits c))
+
+pub value-of-spec : {M : Type 1} → statement M
+value-of-spec = tie.close (tie.spec cast-result cast-result-2 sub-result cast-result-3 returns)

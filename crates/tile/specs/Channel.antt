@@ -1,0 +1,67 @@
+-- What the work on one map channel of a tile promises. Scratch is three parts of N² words: the sum of products, the kernel, the window.
+use mathlib.Core.Path.{_≡_}
+use mathlib.Core.Logic.{_⊎_}
+use mathlib.Core.List.{List}
+use Prim.Native.Nat.{ℕ, _*_, _-_, _≤_, _<_}
+use lib.IntN.{ℤ}
+use lib.ListN.{length, getD}
+use Rattle.algebra.specs.Sum.{sumZ}
+use Rattle.algebra.specs.Places.{Changed}
+use Rattle.algebra.specs.ResidueLaws.{Represents}
+use Rattle.fermat.specs.Field.{modulus}
+use Rattle.fermat.specs.Butterfly.{AtMost}
+use Rattle.fermat.specs.Tile.{Spectrum}
+use Rattle.fermat.specs.Product.{factorMost, productMost}
+use Rattle.layer.specs.declared.shape.Layer.{Layer}
+use Rattle.layer.specs.Shape.{transformLength}
+use Rattle.layer.specs.ChecksLaws.{Planned}
+use Rattle.tile.specs.declared.origin.Origin.{Origin}
+use Rattle.tile.specs.Window.{windowAt, weightAt, channelSum}
+
+-- N²
+abbrev pub area : Layer → ℕ
+area l = transformLength l * transformLength l
+
+-- the first N² words are the transform of words for a plane of the kernel, which stand in its corner
+pub record KernelReady (l : Layer) (kernel : List ℤ) (plane : ℕ) (ys : List ℕ) : Type 0 where
+  pub words : ℕ → ℕ → ℕ
+  pub value : (a b : ℕ) → a < l .side → b < l .side → Represents (modulus (l .field)) (weightAt l kernel plane a b) (words a b)
+  pub empty : (a b : ℕ) → (l .side ≤ a) ⊎ (l .side ≤ b) → words a b ≡ 0
+  pub spectrum : Spectrum (l .field) words 0 ys
+  pub bound : (i : ℕ) → i < area l → getD ys i 0 ≤ factorMost (l .field)
+
+-- all words are the transform of words for the window of map channel c that begins at that row and column
+pub record WindowReady (l : Layer) (map : List ℤ) (c row column : ℕ) (ys : List ℕ) : Type 0 where
+  pub words : ℕ → ℕ → ℕ
+  pub value : (u v : ℕ) → u < transformLength l → v < transformLength l
+      → Represents (modulus (l .field)) (windowAt l map c row column u v) (words u v)
+  pub spectrum : Spectrum (l .field) words 0 ys
+  pub bound : AtMost (factorMost (l .field)) ys
+
+-- the lengths of what is lent
+pub record Lent (l : Layer) (map kernel : List ℤ) (scratch : List ℕ) : Type 0 where
+  pub plan : Planned l
+  pub map-length : length map ≡ l .inputs * l .height * l .width
+  pub kernel-length : length kernel ≡ l .outputs * l .inputs * (l .side * l .side)
+  pub scratch-low : 3 * area l ≤ length scratch
+
+-- an origin whose output channel the layer has, and whose rows and columns are not large
+pub record Within (l : Layer) (o : Origin) : Type 0 where
+  pub channel : o .channel < l .outputs
+  pub row : o .row ≤ 10000
+  pub column : o .column ≤ 10000
+
+module _ (l : Layer) (map kernel : List ℤ) (o : Origin) where
+  -- z at (i, j), for i and j from K − 1 on, is a word for the sum over the first `count` map channels
+  abbrev pub SumsTo : (count : ℕ) (z : ℕ → ℕ → ℕ) → Type 0
+  SumsTo count z =
+      (i j : ℕ) → l .side - 1 ≤ i → i < transformLength l → l .side - 1 ≤ j → j < transformLength l
+      → Represents (modulus (l .field)) (sumZ count (λ c. channelSum l map kernel (o .channel) (o .row) (o .column) c i j)) (z i j)
+
+  -- the sum of products in ys is the transform of that of the first `count` map channels; words beyond the 3N² are those of xs
+  pub record Added (count : ℕ) (xs ys : List ℕ) : Type 0 where
+    pub sum : ℕ → ℕ → ℕ
+    pub value : SumsTo count sum
+    pub spectrum : Spectrum (l .field) sum 0 ys
+    pub bound : (i : ℕ) → i < area l → getD ys i 0 ≤ count * productMost (l .field)
+    pub changed : Changed 0 0 (3 * area l) xs ys

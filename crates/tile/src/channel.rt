@@ -1,0 +1,78 @@
+// One map channel of a tile: the transform of the kernel's plane and that of the window, and their product added to the sum.
+use crate::kernel::load_kernel;
+use crate::origin::Origin;
+use crate::window::load_window;
+use fermat::field;
+use fermat::product::accumulate;
+use fermat::spectrum::corner_spectrum;
+use fermat::spectrum::tile_spectrum;
+use layer::load::planes_to;
+use layer::shape::Layer;
+ghost use mathlib.Core.Path.{_≡_};
+ghost use Prim.Native.Nat.{ℕ, _+_, _*_, _≤_, _<_};
+ghost use mathlib.Core.List.{List};
+ghost use lib.ListN.{length, getD};
+ghost use Rattle.fermat.specs.Product.{productMost};
+ghost use Rattle.layer.specs.ChecksLaws.{InRange};
+ghost use Rattle.tile.specs.Channel.{area, KernelReady, WindowReady, Lent, Within, Added};
+
+// The words are two parts: the transform comes out in the first, and the second is used on the way.
+pub fn kernel_spectrum(words: &mut [u64], layer: Layer, kernel: &[i16], plane: usize)
+    requires { ⌜ InRange layer × (length (now words) ≡ 2 * area layer) ⌝ }
+    requires { ⌜ (length (now kernel) ≡ layer .outputs * layer .inputs * (layer .side * layer .side)) × (plane < layer .outputs * layer .inputs) ⌝ }
+    ensures { λ _. ⌜ KernelReady layer (now (kernel .entry)) plane (now (words .exit)) ⌝ }
+{
+    let n = field::points_of(layer.field);
+    let from = n * n;
+    let to = from + n * layer.side;
+    load_kernel(&mut words[from..to], layer, kernel, plane);
+    corner_spectrum(words, layer.side, layer.field);
+}
+
+// The words are one part.
+pub fn window_spectrum(
+    words: &mut [u64],
+    layer: Layer,
+    map: &[i16],
+    c: usize,
+    row: usize,
+    column: usize,
+)
+    requires { ⌜ InRange layer × (length (now words) ≡ area layer) ⌝ }
+    requires { ⌜ (length (now map) ≡ layer .inputs * layer .height * layer .width) × (c < layer .inputs) × (row ≤ 10000) × (column ≤ 10000) ⌝ }
+    ensures { λ _. ⌜ WindowReady layer (now (map .entry)) c row column (now (words .exit)) ⌝ }
+{
+    load_window(words, layer, map, c, row, column);
+    tile_spectrum(words, layer.field);
+}
+
+// Map channel c is added to the sum, which is that of the channels before.
+pub fn add_channel(
+    scratch: &mut [u64],
+    layer: Layer,
+    origin: Origin,
+    map: &[i16],
+    kernel: &[i16],
+    c: usize,
+)
+    requires { ⌜ Lent layer (now map) (now kernel) (now scratch) × Within layer origin × (c < layer .inputs) ⌝ }
+    requires { ⌜ ((i : ℕ) → i < area layer → getD (now scratch) i 0 ≤ c * productMost (layer .field)) ⌝ }
+    ensures { λ _. ⌜ ((xs : List ℕ) → Added layer (now (map .entry)) (now (kernel .entry)) origin c xs (now (scratch .entry)) → Added layer (now (map .entry)) (now (kernel .entry)) origin (c + 1) xs (now (scratch .exit))) ⌝ }
+{
+    let n = field::points_of(layer.field);
+    let one = n * n;
+    let two = 2 * one;
+    let three = 3 * one;
+    let planes = planes_to(layer, origin.channel);
+    let plane = planes.first + c * planes.step;
+    kernel_spectrum(&mut scratch[one..three], layer, kernel, plane);
+    window_spectrum(
+        &mut scratch[two..three],
+        layer,
+        map,
+        c,
+        origin.row,
+        origin.column,
+    );
+    accumulate(scratch, one, layer.field);
+}

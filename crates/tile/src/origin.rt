@@ -1,0 +1,30 @@
+// Where the windows of a tile begin.
+use crate::place;
+use layer::shape::Layer;
+ghost use mathlib.Core.Path.{_≡_};
+ghost use Prim.Native.Nat.{_<_};
+ghost use Rattle.layer.specs.Shape.{tileTotal};
+ghost use Rattle.layer.specs.ChecksLaws.{Planned};
+ghost use Rattle.layer.specs.TileLaws.{tileChannel};
+ghost use Rattle.tile.specs.Window.{firstRow, firstColumn};
+ghost use Rattle.tile.specs.Channel.{Within};
+
+// The output channel of a tile, and the row and the column of the stride-1 grid that its windows begin at.
+pub struct Origin {
+    pub channel: usize,
+    pub row: usize,
+    pub column: usize,
+}
+
+pub fn origin_of(layer: Layer, tile: usize) -> Origin
+    requires { ⌜ Planned layer × (tile < tileTotal layer) ⌝ }
+    ensures { λ r. ⌜ (r .channel ≡ tileChannel layer tile) × (r .row ≡ firstRow layer tile) × (r .column ≡ firstColumn layer tile) ⌝ }
+    ensures { λ r. ⌜ Within layer r ⌝ }
+{
+    let place = place::place_of(layer, tile);
+    Origin {
+        channel: place.channel,
+        row: place::grid_start(layer, layer.top, place.row),
+        column: place::grid_start(layer, layer.left, place.column),
+    }
+}

@@ -1,0 +1,165 @@
+// A finished tile is stored: its wanted places are written, and no others. The rows and columns of the output that the tile holds are
+// computed; then the run of words of each row is stored.
+use fermat::field;
+use layer::shape::Layer;
+use layer::sizes;
+ghost use mathlib.Core.Path.{_≡_};
+ghost use Prim.Native.Nat.{ℕ, _+_, _*_, _-_, _/_, _≤_, _<_, min};
+ghost use lib.IntN.{pos};
+ghost use lib.ListN.{length};
+ghost use Rattle.algebra.specs.Places.{Written};
+ghost use Rattle.layer.specs.Shape.{transformLength, tileSide, span, tilesAcross, tileTotal, tileOf};
+ghost use Rattle.layer.specs.ChecksLaws.{Planned};
+ghost use Rattle.layer.specs.TileSizes.{Wanted};
+ghost use Rattle.tile.specs.Stored.{halfOf, lessHalf, Storable, wordOf, storedAt};
+ghost use Rattle.tile.specs.Held.{HeldBy, RowStorable, RowStored, WithWords, RowsStorable, RowsStored};
+
+// The rows or the columns of the output that a tile holds.
+pub struct Held {
+    pub first: usize, // the first of them
+    pub count: usize,
+    pub word: usize, // the row or the column of the tile's words that the first one's are in
+}
+
+// What the residues have added: 2^(bits − 1).
+fn half_of(field: usize) -> u64
+    requires { ⌜ field ≤ 5 ⌝ }
+    ensures { λ r. ⌜ r ≡ halfOf field ⌝ }
+{
+    (field::modulus_of(field) - 1) / 2
+}
+
+// A word less half.
+fn value_of(word: u64, half: u64) -> i32
+    requires { ⌜ (half ≤ 2147483648) × Storable half word ⌝ }
+    ensures { λ r. ⌜ r ≡ lessHalf half word ⌝ }
+{
+    (word as i64 - half as i64) as i32
+}
+
+// Stores words that stand side by side. It has a loop of its own, which is compiled to many words at a time.
+fn store_run(output: &mut [i32], at: usize, words: &[u64], from: usize, count: usize, half: u64)
+    requires { ⌜ (half ≤ 2147483648) × (at + count ≤ length (now output)) × RowStorable half from 1 count (now words) ⌝ }
+    ensures { λ _. ⌜ RowStored half at from 1 count (now (words .entry)) (now (output .entry)) (now (output .exit)) ⌝ }
+{
+    let mut i = 0;
+    while i < count {
+        let value = value_of(words[from + i], half);
+        let place = at + i;
+        output[place] = value;
+        i += 1;
+    }
+}
+
+// Stores words that stand `step` apart.
+fn store_spaced(
+    output: &mut [i32],
+    at: usize,
+    words: &[u64],
+    from: usize,
+    step: usize,
+    count: usize,
+    half: u64,
+)
+    requires { ⌜ (half ≤ 2147483648) × (at + count ≤ length (now output)) × RowStorable half from step count (now words) ⌝ }
+    ensures { λ _. ⌜ RowStored half at from step count (now (words .entry)) (now (output .entry)) (now (output .exit)) ⌝ }
+{
+    let mut i = 0;
+    while i < count {
+        let value = value_of(words[from + i * step], half);
+        let place = at + i;
+        output[place] = value;
+        i += 1;
+    }
+}
+
+// Stores a row of a tile.
+fn store_row(
+    output: &mut [i32],
+    at: usize,
+    words: &[u64],
+    from: usize,
+    step: usize,
+    count: usize,
+    half: u64,
+)
+    requires { ⌜ (half ≤ 2147483648) × (at + count ≤ length (now output)) × RowStorable half from step count (now words) ⌝ }
+    ensures { λ _. ⌜ RowStored half at from step count (now (words .entry)) (now (output .entry)) (now (output .exit)) ⌝ }
+{
+    if step == 1 {
+        store_run(output, at, words, from, count, half);
+    } else {
+        store_spaced(output, at, words, from, step, count, half);
+    }
+}
+
+// The first row or column of the output that lies in this tile of a line of tiles, or further on.
+fn first_held(tile: usize, side: usize, step: usize) -> usize
+    requires { ⌜ (tile ≤ 8280) × (side ≤ 64) × (1 ≤ step) × (step ≤ 4) ⌝ }
+    ensures { λ r. ⌜ r ≡ (tile * side + step - 1) / step ⌝ }
+{
+    (tile * side + step - 1) / step
+}
+
+// The first row or column after this tile, or `count` where there is none.
+fn end_held(tile: usize, side: usize, step: usize, count: usize) -> usize
+    requires { ⌜ (tile < 8280) × (side ≤ 64) × (1 ≤ step) × (step ≤ 4) ⌝ }
+    ensures { λ r. ⌜ r ≡ min (((tile + 1) * side + step - 1) / step) count ⌝ }
+{
+    let next = first_held(tile + 1, side, step);
+    if next < count { next } else { count }
+}
+
+// Which of `count` rows or columns of the output lie in this tile of a line of tiles.
+fn held_in(layer: Layer, tile: usize, count: usize) -> Held
+    requires { ⌜ Planned layer × Wanted layer count × (tile < tilesAcross (tileSide layer) (span layer count)) ⌝ }
+    ensures { λ r. ⌜ HeldBy layer tile count r ⌝ }
+{
+    let side = sizes::tile_side(layer);
+    let step = sizes::grid_step(layer);
+    let first = first_held(tile, side, step);
+    let end = end_held(tile, side, step, count);
+    let count_held = end - first;
+    let word = layer.side - 1 + (first * step - tile * side);
+    Held {
+        first: first,
+        count: count_held,
+        word: word,
+    }
+}
+
+// Stores the places that the tile holds. Only the rows with such places are lent.
+fn store_rows(output: &mut [i32], words: &[u64], layer: Layer, rows: Held, columns: Held)
+    requires { ⌜ Planned layer × (length (now output) ≡ rows .count * layer .columns) × (columns .first + columns .count ≤ layer .columns) ⌝ }
+    requires { ⌜ (transformLength layer * transformLength layer ≤ length (now words)) × WithWords layer rows × WithWords layer columns ⌝ }
+    requires { ⌜ RowsStorable layer rows columns (now words) ⌝ }
+    ensures { λ _. ⌜ RowsStored layer rows columns (rows .count) (now (words .entry)) (now (output .entry)) (now (output .exit)) ⌝ }
+{
+    let n = field::points_of(layer.field);
+    let step = sizes::grid_step(layer);
+    let half = half_of(layer.field);
+    let mut r = 0;
+    while r < rows.count {
+        let at = r * layer.columns + columns.first;
+        let from = (rows.word + r * step) * n + columns.word;
+        store_row(output, at, words, from, step, columns.count, half);
+        r += 1;
+    }
+}
+
+// Stores tile `tile` of the layer: the value of each output place that it holds. No other place changes.
+pub fn store_tile(output: &mut [i32], words: &[u64], layer: Layer, tile: usize)
+    requires { ⌜ Planned layer × (length (now output) ≡ layer .outputs * layer .rows * layer .columns) × (tile < tileTotal layer) ⌝ }
+    requires { ⌜ transformLength layer * transformLength layer ≤ length (now words) ⌝ }
+    requires { ⌜ ((p : ℕ) → p < length (now output) → tileOf layer p ≡ tile → Storable (halfOf (layer .field)) (wordOf layer tile p (now words))) ⌝ }
+    ensures { λ _. ⌜ Written (pos 0) (λ p. tileOf layer p ≡ tile) (storedAt layer tile (now (words .entry))) (now (output .entry)) (now (output .exit)) ⌝ }
+{
+    let down = sizes::tiles_along(layer, layer.rows);
+    let across = sizes::tiles_along(layer, layer.columns);
+    let line = tile / across;
+    let rows = held_in(layer, line % down, layer.rows);
+    let columns = held_in(layer, tile % across, layer.columns);
+    let from = (line / down * layer.rows + rows.first) * layer.columns;
+    let to = from + rows.count * layer.columns;
+    store_rows(&mut output[from..to], words, layer, rows, columns);
+}
