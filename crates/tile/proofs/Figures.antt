@@ -52,8 +52,8 @@ module _ (l : Layer) (r : InRange l) (column first begin : ℕ) (first-is : firs
   pub first-high : first * spacing l ≤ column + 10
   first-high = omega (arith, begin-high)
 
-  pub shows : (room count : ℕ) → column ≤ 10000 → room ≡ tilesAcross (spacing l) (transformLength l - begin) → count ≤ room → count ≤ l .width - first
-      → ((i : ℕ) → i < room → i < l .width - first → i < count)
+  pub shows : (room count : ℕ) → column ≤ 10000 → room ≡ tilesAcross (spacing l) (transformLength l - begin)
+      → count ≤ room → count ≤ l .width - first → ((i : ℕ) → i < room → i < l .width - first → i < count)
       → Shows l column (record { spacing = spacing l; first = first; begin = begin; count = count })
   shows room count near room-is in-room in-width most = record {
     fitting = record {

@@ -2,7 +2,7 @@
 use mathlib.Core.Path.{_≡_}
 use mathlib.Core.Logic.{_⊎_}
 use mathlib.Core.List.{List}
-use Prim.Native.Nat.{ℕ, _*_, _-_, _≤_, _<_}
+use Prim.Native.Nat.{ℕ, _+_, _*_, _-_, _≤_, _<_}
 use lib.IntN.{ℤ}
 use lib.ListN.{length, getD}
 use Rattle.algebra.specs.Sum.{sumZ}
@@ -65,3 +65,7 @@ module _ (l : Layer) (map kernel : List ℤ) (o : Origin) where
     pub spectrum : Spectrum (l .field) sum 0 ys
     pub bound : (i : ℕ) → i < area l → getD ys i 0 ≤ count * productMost (l .field)
     pub changed : Changed 0 0 (3 * area l) xs ys
+
+  -- ys has map channel c added to the sum of the channels before, which is that of xs
+  abbrev pub Adds : (c : ℕ) (xs ys : List ℕ) → Type 0
+  Adds c xs ys = (first : List ℕ) → Added c first xs → Added (c + 1) first ys

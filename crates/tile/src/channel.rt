@@ -10,13 +10,12 @@ use layer::load::planes_to;
 use layer::shape::Layer;
 ghost use mathlib.Core.Path.{_≡_};
 ghost use Prim.Native.Nat.{ℕ, _+_, _*_, _≤_, _<_};
-ghost use mathlib.Core.List.{List};
 ghost use lib.ListN.{length, getD};
 ghost use Rattle.fermat.specs.Product.{productMost};
 ghost use Rattle.layer.specs.ChecksLaws.{InRange};
-ghost use Rattle.tile.specs.Channel.{area, KernelReady, WindowReady, Lent, Within, Added};
+ghost use Rattle.tile.specs.Channel.{area, KernelReady, WindowReady, Lent, Within, Adds};
 
-// The words are two parts: the transform comes out in the first, and the second is used on the way.
+// The transform of a plane of the kernel. The words are two parts: it comes out in the first, and the second is used on the way.
 pub fn kernel_spectrum(words: &mut [u64], layer: Layer, kernel: &[i16], plane: usize)
     requires { ⌜ InRange layer × (length (now words) ≡ 2 * area layer) ⌝ }
     requires { ⌜ (length (now kernel) ≡ layer .outputs * layer .inputs * (layer .side * layer .side)) × (plane < layer .outputs * layer .inputs) ⌝ }
@@ -29,7 +28,7 @@ pub fn kernel_spectrum(words: &mut [u64], layer: Layer, kernel: &[i16], plane: u
     corner_spectrum(words, layer.side, layer.field);
 }
 
-// The words are one part.
+// The transform of the window of map channel c that begins at that row and column.
 pub fn window_spectrum(
     words: &mut [u64],
     layer: Layer,
@@ -57,7 +56,7 @@ pub fn add_channel(
 )
     requires { ⌜ Lent layer (now map) (now kernel) (now scratch) × Within layer origin × (c < layer .inputs) ⌝ }
     requires { ⌜ ((i : ℕ) → i < area layer → getD (now scratch) i 0 ≤ c * productMost (layer .field)) ⌝ }
-    ensures { λ _. ⌜ ((xs : List ℕ) → Added layer (now (map .entry)) (now (kernel .entry)) origin c xs (now (scratch .entry)) → Added layer (now (map .entry)) (now (kernel .entry)) origin (c + 1) xs (now (scratch .exit))) ⌝ }
+    ensures { λ _. ⌜ Adds layer (now (map .entry)) (now (kernel .entry)) origin c (now (scratch .entry)) (now (scratch .exit)) ⌝ }
 {
     let n = field::points_of(layer.field);
     let one = n * n;

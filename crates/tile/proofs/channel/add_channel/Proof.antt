@@ -94,7 +94,8 @@ part-kernel-spectrum-end c = omega (arith, room (c .before .before .before))
 part-length : (a k : ℕ) (xs : List ℕ) → a + k ≤ length xs → length (midOf a k xs) ≡ k
 part-length a k xs le = length-take-le k (drop a xs) (omega (arith, length-drop a xs))
 
-kernel-part : (c : tie.After-points-of) → length (midOf (n c * n c) (3 * (n c * n c) - n c * n c) (now (start c .args .scratch))) ≡ 2 * area (start c .args .layer)
+kernel-part : (c : tie.After-points-of)
+    → length (midOf (n c * n c) (3 * (n c * n c) - n c * n c) (now (start c .args .scratch))) ≡ 2 * area (start c .args .layer)
 kernel-part c =
     part-length (n c * n c) (3 * (n c * n c) - n c * n c) (now (start c .args .scratch)) (omega (arith, room c)) ∙ omega (arith, area-is c)
 
