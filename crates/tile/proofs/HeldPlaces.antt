@@ -1,11 +1,11 @@
--- The places of tile t in the part of the output that is lent to `store_rows`: its rows, from the first that the tile holds to the last.
+-- The places of tile t in the part of the output that is lent to `store_rows`, which begins at the first row of the tile's channel.
 -- It rests on the laws of tiles and of written places.
-use mathlib.Core.Path.{_≡_, sym, ap, ap₂, _∙_}
+use mathlib.Core.Path.{_≡_, ap, ap₂, _∙_}
 use mathlib.Core.List.{List}
 use Prim.Native.Nat.{ℕ, _+_, _*_, _-_, _/_, _%_, _<_, _≤_}
-use native.Mathlib.Nat.{div-add-mod', mul-le-mul-right, suc-mul}
+use native.Mathlib.Nat.{div-add-mod', div-lt-iff-lt-mul, mul-assoc, mul-le-mul-right, suc-mul}
 use native.Mathlib.Omega.{arith}
-use lib.Arith.{digits-lt, digits-div, digits-mod}
+use lib.Arith.{digits-div, digits-mod}
 use lib.IntN.{ℤ, pos}
 use lib.ListN.{length}
 use borrow.Rule.Slice.PartMut.{midOf, putMid}
@@ -43,116 +43,90 @@ module _ (l : Layer) (t count : ℕ) (h : Held) (by : HeldBy l t count h) where
 
 -- ---- the places
 
--- a place from its channel, row and column; both ways of counting them
-flat : (a rows w first i f : ℕ) → a * (rows * w) + ((first + i) * w + f) ≡ (a * rows + first) * w + (i * w + f)
-flat a rows w first i f = omega arith
+-- the tile's channel ends within the output
+pub channel-end : (l : Layer) (t : ℕ) → tileChannel l t < l .outputs
+    → tileChannel l t * (l .rows * l .columns) + l .rows * l .columns ≤ l .outputs * l .rows * l .columns
+channel-end l t below =
+    let plane : ℕ = l .rows * l .columns in
+    omega (arith, mul-le-mul-right plane below, suc-mul (tileChannel l t) plane, mul-assoc (l .outputs) (l .rows) (l .columns))
 
 module _ (l : Layer) (planned : Planned l) (t : ℕ) (rows columns : Held)
     (in-rows : HeldBy l (tileRow l t) (l .rows) rows) (in-columns : HeldBy l (tileColumn l t) (l .columns) columns)
-    (from size : ℕ) (from-is : from ≡ (tileChannel l t * l .rows + rows .first) * l .columns) (size-is : size ≡ rows .count * l .columns) where
-  -- the part ends within the output
-  pub part-end : tileChannel l t < l .outputs → from + size ≤ l .outputs * l .rows * l .columns
-  part-end below =
-      let end : tileChannel l t * l .rows + (rows .first + rows .count) ≤ l .outputs * l .rows =
-      omega (arith, mul-le-mul-right (l .rows) below, suc-mul (tileChannel l t) (l .rows), in-rows .short) in
-      omega (arith, mul-le-mul-right (l .columns) end, from-is, size-is)
+    (from : ℕ) (from-is : from ≡ tileChannel l t * (l .rows * l .columns)) where
+  -- a place of the rows and columns held is one of the channel
+  in-channel : (q : ℕ) → InRows l rows columns (rows .count) q → q < l .rows * l .columns
+  in-channel q (row, column) = div-lt-iff-lt-mul (planned .columns-low) .0 (omega (arith, in-rows .short))
 
-  -- row r and column f of the part lie in the tile where both are held
-  part-in-tile : (r f : ℕ) → r < rows .count → Run (columns .first) (columns .count) f → InTile l t (from + (r * l .columns + f))
-  part-in-tile r f below run =
-      let e : ℕ = rows .first + r in
-      let p : ℕ = from + (r * l .columns + f) in
-      let right : f < l .columns = omega (arith, in-columns .short) in
-      let inside : e * l .columns + f < l .rows * l .columns = digits-lt (omega (arith, in-rows .short)) right in
-      let place : p ≡ tileChannel l t * (l .rows * l .columns) + (e * l .columns + f) =
-      omega (arith, from-is, flat (tileChannel l t) (l .rows) (l .columns) (rows .first) r f) in
-      let plane : p % (l .rows * l .columns) ≡ e * l .columns + f =
-      ap (λ (k : ℕ). k % (l .rows * l .columns)) place ∙ digits-mod (tileChannel l t) inside in
-      let row : rowOf l p ≡ e = ap (λ (k : ℕ). k / l .columns) plane ∙ digits-div e right in
-      let column : columnOf l p ≡ f = ap (λ (k : ℕ). k % l .columns) plane ∙ digits-mod e right in
-      let (row-low, row-high) = in-rows .inside e (omega arith, omega arith) in
-      let (column-low, column-high) = in-columns .inside f run in
+  -- and lies in the tile
+  in-tile : (q : ℕ) → InRows l rows columns (rows .count) q → InTile l t (from + q)
+  in-tile q (row, column) =
+      let inside = in-channel q (row, column) in
+      let place : from + q ≡ tileChannel l t * (l .rows * l .columns) + q = omega (arith, from-is) in
+      let plane : (from + q) % (l .rows * l .columns) ≡ q = ap (λ (k : ℕ). k % (l .rows * l .columns)) place ∙ digits-mod (tileChannel l t) inside in
+      let (row-low, row-high) = in-rows .inside (q / l .columns) row in
+      let (column-low, column-high) = in-columns .inside (q % l .columns) column in
       record {
         channel = ap (λ (k : ℕ). k / (l .rows * l .columns)) place ∙ digits-div (tileChannel l t) inside;
-        row-low = rw row row-low;
-        row-high = rw row row-high;
-        column-low = rw column column-low;
-        column-high = rw column column-high;
+        row-low = rw plane row-low;
+        row-high = rw plane row-high;
+        column-low = rw plane column-low;
+        column-high = rw plane column-high;
       }
 
-  -- every place of the tile is one of these
-  record InPart (p : ℕ) : Type 0 where
-    row-run : Run (rows .first) (rows .count) (rowOf l p)
-    column-run : Run (columns .first) (columns .count) (columnOf l p)
-    within : Run from size p
-    part-row : (p - from) / l .columns ≡ rowOf l p - rows .first
-    part-column : (p - from) % l .columns ≡ columnOf l p
+  -- every place of the tile is one of the channel, and there of the rows and columns held
+  in-part : (p : ℕ) → InTile l t p → from + p % (l .rows * l .columns) ≡ p
+  in-part p i = omega (arith, from-is, ap (λ (k : ℕ). k * (l .rows * l .columns)) (i .channel), div-add-mod' p (l .rows * l .columns))
 
-  in-part : (p : ℕ) → InTile l t p → InPart p
-  in-part p i =
+  held : (p : ℕ) → InTile l t p → InRows l rows columns (rows .count) (p - from)
+  held p i =
       let tiled = planned-tiled l planned in
-      let e : ℕ = rowOf l p in
-      let f : ℕ = columnOf l p in
-      let right : f < l .columns = column-lt l tiled p in
-      let row = in-rows .all e (row-lt l tiled p) (i .row-low, i .row-high) in
-      let up : e - rows .first < rows .count = omega arith in
-      let back : rows .first + (e - rows .first) ≡ e = omega arith in
-      let whole : p ≡ tileChannel l t * (l .rows * l .columns) + (e * l .columns + f) =
-      sym (ap₂ (λ (a b : ℕ). a * (l .rows * l .columns) + b) (sym (i .channel)) (div-add-mod' (p % (l .rows * l .columns)) (l .columns))
-      ∙ div-add-mod' p (l .rows * l .columns)) in
-      let place : p ≡ from + ((e - rows .first) * l .columns + f) =
-      omega (arith, whole, from-is, rw back at (flat (tileChannel l t) (l .rows) (l .columns) (rows .first) (e - rows .first) f)) in
-      let inner : p - from ≡ (e - rows .first) * l .columns + f = omega (arith, place) in
-      record {
-        row-run = row;
-        column-run = in-columns .all f right (i .column-low, i .column-high);
-        within = (omega (arith, place), omega (arith, place, size-is, digits-lt up right));
-        part-row = ap (λ (k : ℕ). k / l .columns) inner ∙ digits-div _ right;
-        part-column = ap (λ (k : ℕ). k % l .columns) inner ∙ digits-mod _ right;
-      }
+      let inner : p - from ≡ p % (l .rows * l .columns) = omega (arith, in-part p i) in
+      rw inner (
+        in-rows .all (rowOf l p) (row-lt l tiled p) (i .row-low, i .row-high),
+        in-columns .all (columnOf l p) (column-lt l tiled p) (i .column-low, i .column-high),
+      )
 
   -- so the words are the same
   module _ (words : List ℕ) where
     same-word : (p : ℕ) → InTile l t p
-        → heldWord l rows columns ((p - from) / l .columns) ((p - from) % l .columns - columns .first) words ≡ wordOf l t p words
+        → heldWord l rows columns ((p - from) / l .columns - rows .first) ((p - from) % l .columns - columns .first) words ≡ wordOf l t p words
     same-word p i =
-        let part = in-part p i in
-        rw (part .part-row, part .part-column) (ap₂ (λ (a b : ℕ). word (transformLength l) a b words)
-        (word-at l (tileRow l t) (l .rows) rows in-rows (rowOf l p) (part .row-run))
-        (word-at l (tileColumn l t) (l .columns) columns in-columns (columnOf l p) (part .column-run)))
+        let inner : p - from ≡ p % (l .rows * l .columns) = omega (arith, in-part p i) in
+        let (row, column) = rw inner at (held p i) in
+        rw inner (ap₂ (λ (a b : ℕ). word (transformLength l) a b words)
+        (word-at l (tileRow l t) (l .rows) rows in-rows (rowOf l p) row)
+        (word-at l (tileColumn l t) (l .columns) columns in-columns (columnOf l p) column))
 
     -- what is asked of the tile's places is asked of the rows
-    pub rows-fit : {n : ℕ} → from + size ≤ n → ((p : ℕ) → p < n → tileOf l p ≡ t → Storable (halfOf (l .field)) (wordOf l t p words))
-        → RowsStorable l rows columns words
+    pub rows-fit : {n : ℕ} → from + l .rows * l .columns ≤ n
+        → ((p : ℕ) → p < n → tileOf l p ≡ t → Storable (halfOf (l .field)) (wordOf l t p words)) → RowsStorable l rows columns words
     rows-fit room fit r f below left =
+        let e : ℕ = rows .first + r in
         let column : ℕ = columns .first + f in
-        let p : ℕ = from + (r * l .columns + column) in
+        let q : ℕ = e * l .columns + column in
         let right : column < l .columns = omega (arith, in-columns .short) in
-        let i = part-in-tile r column below (omega arith, omega arith) in
-        let inner : p - from ≡ r * l .columns + column = omega arith in
+        let row : q / l .columns ≡ e = digits-div e right in
+        let across : q % l .columns ≡ column = digits-mod e right in
+        let here : InRows l rows columns (rows .count) q = rw (row, across) ((omega arith, omega arith), (omega arith, omega arith)) in
+        let i = in-tile q here in
+        let inner : from + q - from ≡ q = omega arith in
+        let up : e - rows .first ≡ r = omega arith in
         let back : column - columns .first ≡ f = omega arith in
-        let row : (p - from) / l .columns ≡ r = ap (λ (k : ℕ). k / l .columns) inner ∙ digits-div r right in
-        let across : (p - from) % l .columns ≡ column = ap (λ (k : ℕ). k % l .columns) inner ∙ digits-mod r right in
-        omega (arith, fit p (omega (arith, in-part p i .within)) (from-tile l t p i), rw (row, across, back) at (same-word p i))
+        omega (
+          arith,
+          fit (from + q) (omega (arith, in-channel q here)) (from-tile l t (from + q) i),
+          rw (inner, row, across, up, back) at (same-word (from + q) i),
+        )
 
     -- and the rows stored are the tile stored
-    pub tile-stored : {xs ys : List ℤ} → from + size ≤ length xs → RowsStored l rows columns (rows .count) words (midOf from size xs) ys
-        → Written (pos 0) (λ p. tileOf l p ≡ t) (storedAt l t words) xs (putMid from size xs ys)
-    tile-stored room stored =
-        written-as (written-part from size room stored) (λ p below e. held p (to-tile l tiled t p e))
-        (λ p h. from-tile l t p (in-tile p (h .0) (h .1)))
+    pub tile-stored : {xs ys : List ℤ} → from ≤ length xs
+        → RowsStored l rows columns (rows .count) words (midOf from (length xs - from) xs) ys
+        → Written (pos 0) (λ p. tileOf l p ≡ t) (storedAt l t words) xs (putMid from (length xs - from) xs ys)
+    tile-stored {xs} room stored =
+        written-as (written-part from (length xs - from) (omega arith) stored)
+        (λ p below e. let i = to-tile l tiled t p e in ((omega (arith, in-part p i), omega arith), held p i))
+        (λ p h. let e : from + (p - from) ≡ p = omega (arith, h .0) in from-tile l t p (rw e at (in-tile (p - from) (h .1))))
         (λ p below e. ap (lessHalf (halfOf (l .field))) (same-word p (to-tile l tiled t p e)))
       where
         tiled : Tiled l
         tiled = planned-tiled l planned
-
-        held : (p : ℕ) → InTile l t p → Run from size p × InRows l columns (rows .count) (p - from)
-        held p i =
-            let part = in-part p i in
-            rw (part .part-row, part .part-column) (part .within, (omega (arith, part .row-run), part .column-run))
-
-        in-tile : (p : ℕ) → Run from size p → InRows l columns (rows .count) (p - from) → InTile l t p
-        in-tile p run (below, column) =
-            let e : from + ((p - from) / l .columns * l .columns + (p - from) % l .columns) ≡ p =
-            omega (arith, run .0, div-add-mod' (p - from) (l .columns)) in
-            rw e at (part-in-tile _ _ below column)

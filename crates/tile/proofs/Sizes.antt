@@ -1,14 +1,15 @@
--- Bounds of the figures that the loads compute, so that arithmetic on them does not wrap.
+-- Bounds of the figures that the loads and the stores compute, so that arithmetic on them does not wrap.
 use Prim.Native.Nat.{ℕ, _+_, _*_, _-_, _^_, _≤_, _<_}
-use native.Mathlib.Nat.{mul-le-mul}
+use native.Mathlib.Nat.{mul-le-mul, mod-lt}
 use native.Mathlib.Omega.{arith}
 use lib.Arith.{digits-lt}
 use lib.Pow.{pow-mono}
 use Rattle.fermat.specs.Field.{modulus}
 use Rattle.layer.specs.declared.shape.Layer.{Layer}
-use Rattle.layer.specs.Shape.{transformLength}
-use Rattle.layer.specs.ChecksLaws.{InRange}
+use Rattle.layer.specs.Shape.{transformLength, tileRows, tileColumns}
+use Rattle.layer.specs.ChecksLaws.{InRange, Planned}
 use Rattle.layer.specs.TileSizes.{length-low}
+use Rattle.layer.specs.TileLaws.{planned-tiled, line-some, tileRow, tileColumn}
 
 module _ (l : Layer) (r : InRange l) where
   pub modulus-low : 65537 ≤ modulus (l .field)
@@ -54,3 +55,11 @@ module _ (l : Layer) (r : InRange l) where
 -- row u of n rows of n ends within them
 pub row-end : (n u : ℕ) → u < n → u * n + n ≤ n * n
 row-end n u h = omega (arith, mul-le-mul {n₁ = u + 1} {m₁ = n} {n₂ = n} {m₂ = n} (omega arith) (omega arith))
+
+-- the row and the column of tiles that a tile stands in
+module _ (l : Layer) (planned : Planned l) (t : ℕ) where
+  pub tile-row-lt : tileRow l t < tileRows l
+  tile-row-lt = mod-lt _ (line-some l (planned-tiled l planned) (l .rows) (planned .rows-low))
+
+  pub tile-column-lt : tileColumn l t < tileColumns l
+  tile-column-lt = mod-lt t (line-some l (planned-tiled l planned) (l .columns) (planned .columns-low))

@@ -56,27 +56,28 @@ half-high field high =
 -- ---- rows of w places, of which `count` from `first` on are written
 
 module _ (w first count : ℕ) (room : first + count ≤ w) where
-  pub in-row : (r p : ℕ) → Run (r * w + first) count p → (p / w ≡ r) × (p % w ≡ p - r * w)
-  in-row r p h =
-      let f : ℕ = p - r * w in
+  in-row : (e p : ℕ) → Run (e * w + first) count p → (p / w ≡ e) × (p % w ≡ p - e * w)
+  in-row e p h =
+      let f : ℕ = p - e * w in
       let small : f < w = omega arith in
-      let e : p ≡ r * w + f = omega arith in
-      (ap (λ (k : ℕ). k / w) e ∙ digits-div r small, ap (λ (k : ℕ). k % w) e ∙ digits-mod r small)
+      let same : p ≡ e * w + f = omega arith in
+      (ap (λ (k : ℕ). k / w) same ∙ digits-div e small, ap (λ (k : ℕ). k % w) same ∙ digits-mod e small)
 
-  to-row : (r p : ℕ) → p / w ≡ r → Run first count (p % w) → Run (r * w + first) count p
-  to-row r p e h =
+  to-row : (e p : ℕ) → p / w ≡ e → Run first count (p % w) → Run (e * w + first) count p
+  to-row e p is h =
       let whole : p / w * w + p % w ≡ p = div-add-mod' p w in
-      let row : p / w * w ≡ r * w = ap (λ (k : ℕ). k * w) e in
+      let row : p / w * w ≡ e * w = ap (λ (k : ℕ). k * w) is in
       (omega arith, omega arith)
 
-  -- a place of the first r + 1 rows is one of the first r rows or of row r
-  one-more : (r p : ℕ) → (p / w < r + 1) × Run first count (p % w)
-      → (((p / w < r) × Run first count (p % w)) × (Run (r * w + first) count p → ⊥)) ⊎ Run (r * w + first) count p
-  one-more r p h = go (ℕ-discrete (p / w) r)
+  -- a place of the r + 1 rows from `top` on is one of the first r of them or of the last
+  one-more : (top r p : ℕ) → Run top (r + 1) (p / w) × Run first count (p % w)
+      → ((Run top r (p / w) × Run first count (p % w)) × (Run ((top + r) * w + first) count p → ⊥)) ⊎ Run ((top + r) * w + first) count p
+  one-more top r p h = go (ℕ-discrete (p / w) (top + r))
     where
-      go : Dec (p / w ≡ r) → (((p / w < r) × Run first count (p % w)) × (Run (r * w + first) count p → ⊥)) ⊎ Run (r * w + first) count p
-      go (yes e) = inr (to-row r p e (h .1))
-      go (no n) = inl ((omega arith, h .1), λ run. n (in-row r p run .0))
+      go : Dec (p / w ≡ top + r)
+          → ((Run top r (p / w) × Run first count (p % w)) × (Run ((top + r) * w + first) count p → ⊥)) ⊎ Run ((top + r) * w + first) count p
+      go (yes e) = inr (to-row (top + r) p e (h .1))
+      go (no n) = inl (((h .0 .0, omega (arith, h .0)), h .1), λ run. n (in-row (top + r) p run .0))
 
 -- a row more of the tile is stored
 module _ (l : Layer) (rows columns : Held) (words : List ℕ) {xs : List ℤ} (room : columns .first + columns .count ≤ l .columns) where
@@ -86,22 +87,29 @@ module _ (l : Layer) (rows columns : Held) (words : List ℕ) {xs : List ℤ} (r
   pub rows-next : {ys zs : List ℤ} (r : ℕ) {half from step : ℕ} → half ≡ halfOf (l .field) → step ≡ gridStep l
       → from ≡ (rows .word + r * gridStep l) * transformLength l + columns .word
       → RowsStored l rows columns r words xs ys
-      → RowStored half (r * l .columns + columns .first) from step (columns .count) words ys zs
+      → RowStored half ((rows .first + r) * l .columns + columns .first) from step (columns .count) words ys zs
       → RowsStored l rows columns (r + 1) words xs zs
   rows-next r {half} {from} {step} half-is step-is from-is before row =
       written-again before
       (written-as row (λ p below h. h) (λ p h. h) (λ p below h. ap₂ lessHalf half-is (ap (λ (k : ℕ). getD words k 0) (place p h))))
-      (λ p below h. one-more w (columns .first) (columns .count) room r p h)
-      (λ p h. (omega (arith, h .0), h .1))
-      (λ p h. let (row, column) = in-row w (columns .first) (columns .count) room r p h in (omega arith, (omega arith, omega arith)))
+      (λ p below h. one-more w (columns .first) (columns .count) room (rows .first) r p h)
+      (λ p h. ((h .0 .0, omega (arith, h .0)), h .1))
+      (λ p h. let (row, column) = at p h in ((omega arith, omega arith), (omega arith, omega arith)))
     where
       w : ℕ
       w = l .columns
 
-      place : (p : ℕ) → Run (r * w + columns .first) (columns .count) p
-          → from + (p - (r * w + columns .first)) * step
-          ≡ (rows .word + p / w * gridStep l) * transformLength l + (columns .word + (p % w - columns .first) * gridStep l)
+      e : ℕ
+      e = rows .first + r
+
+      at : (p : ℕ) → Run (e * w + columns .first) (columns .count) p → (p / w ≡ e) × (p % w ≡ p - e * w)
+      at p h = in-row w (columns .first) (columns .count) room e p h
+
+      place : (p : ℕ) → Run (e * w + columns .first) (columns .count) p
+          → from + (p - (e * w + columns .first)) * step
+          ≡ (rows .word + (p / w - rows .first) * gridStep l) * transformLength l + (columns .word + (p % w - columns .first) * gridStep l)
       place p h =
-          let (row, column) = in-row w (columns .first) (columns .count) room r p h in
-          let same : p - (r * w + columns .first) ≡ p % w - columns .first = omega arith in
-          rw (step-is, from-is, row, same) (add-assoc _ _ _)
+          let (row, column) = at p h in
+          let up : p / w - rows .first ≡ r = omega arith in
+          let same : p - (e * w + columns .first) ≡ p % w - columns .first = omega arith in
+          rw (step-is, from-is, up, same) (add-assoc _ _ _)

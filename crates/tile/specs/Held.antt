@@ -33,7 +33,7 @@ RowStorable half from step count words =
 abbrev pub RowStored : (half at from step count : ℕ) → List ℕ → (xs ys : List ℤ) → Type 0
 RowStored half at from step count words = Written (pos 0) (Run at count) (λ p. lessHalf half (getD words (from + (p - at) * step) 0))
 
--- ---- the places of a tile in the rows that it holds, counted from the first of these rows
+-- ---- the places of a tile in the rows that it holds, counted from its channel's first place
 
 -- the words of the last row or column held, and so of all, are among the N by N
 abbrev pub WithWords : Layer → Held → Type 0
@@ -47,11 +47,11 @@ abbrev pub RowsStorable : Layer → (rows columns : Held) → List ℕ → Type 
 RowsStorable l rows columns words =
     (r f : ℕ) → r < rows .count → f < columns .count → Storable (halfOf (l .field)) (heldWord l rows columns r f words)
 
--- place p of the first `count` rows
-abbrev pub InRows : Layer → (columns : Held) → (count p : ℕ) → Type 0
-InRows l columns count p = (p / l .columns < count) × Run (columns .first) (columns .count) (p % l .columns)
+-- place p of the channel lies in one of the first `count` rows held and in a column held
+abbrev pub InRows : Layer → (rows columns : Held) → (count p : ℕ) → Type 0
+InRows l rows columns count p = Run (rows .first) count (p / l .columns) × Run (columns .first) (columns .count) (p % l .columns)
 
 abbrev pub RowsStored : Layer → (rows columns : Held) → (count : ℕ) → List ℕ → (xs ys : List ℤ) → Type 0
 RowsStored l rows columns count words =
-    Written (pos 0) (InRows l columns count)
-    (λ p. lessHalf (halfOf (l .field)) (heldWord l rows columns (p / l .columns) (p % l .columns - columns .first) words))
+    Written (pos 0) (InRows l rows columns count)
+    (λ p. lessHalf (halfOf (l .field)) (heldWord l rows columns (p / l .columns - rows .first) (p % l .columns - columns .first) words))

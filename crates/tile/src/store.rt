@@ -1,5 +1,6 @@
 // A finished tile is stored: its wanted places are written, and no others. The rows and columns of the output that the tile holds are
 // computed; then the run of words of each row is stored.
+use crate::place;
 use fermat::field;
 use layer::shape::Layer;
 use layer::sizes;
@@ -128,11 +129,11 @@ fn held_in(layer: Layer, tile: usize, count: usize) -> Held
     }
 }
 
-// Stores the places that the tile holds. Only the rows with such places are lent.
+// Stores the places that the tile holds. The output is lent from the channel's first row on.
 fn store_rows(output: &mut [i32], words: &[u64], layer: Layer, rows: Held, columns: Held)
-    requires { ⌜ Planned layer × (length (now output) ≡ rows .count * layer .columns) × (columns .first + columns .count ≤ layer .columns) ⌝ }
-    requires { ⌜ (transformLength layer * transformLength layer ≤ length (now words)) × WithWords layer rows × WithWords layer columns ⌝ }
-    requires { ⌜ RowsStorable layer rows columns (now words) ⌝ }
+    requires { ⌜ Planned layer × WithWords layer rows × WithWords layer columns ⌝ }
+    requires { ⌜ ((rows .first + rows .count) * layer .columns ≤ length (now output)) × (columns .first + columns .count ≤ layer .columns) ⌝ }
+    requires { ⌜ (transformLength layer * transformLength layer ≤ length (now words)) × RowsStorable layer rows columns (now words) ⌝ }
     ensures { λ _. ⌜ RowsStored layer rows columns (rows .count) (now (words .entry)) (now (output .entry)) (now (output .exit)) ⌝ }
 {
     let n = field::points_of(layer.field);
@@ -140,7 +141,7 @@ fn store_rows(output: &mut [i32], words: &[u64], layer: Layer, rows: Held, colum
     let half = half_of(layer.field);
     let mut r = 0;
     while r < rows.count {
-        let at = r * layer.columns + columns.first;
+        let at = (rows.first + r) * layer.columns + columns.first;
         let from = (rows.word + r * step) * n + columns.word;
         store_row(output, at, words, from, step, columns.count, half);
         r += 1;
@@ -154,12 +155,9 @@ pub fn store_tile(output: &mut [i32], words: &[u64], layer: Layer, tile: usize)
     requires { ⌜ ((p : ℕ) → p < length (now output) → tileOf layer p ≡ tile → Storable (halfOf (layer .field)) (wordOf layer tile p (now words))) ⌝ }
     ensures { λ _. ⌜ Written (pos 0) (λ p. tileOf layer p ≡ tile) (storedAt layer tile (now (words .entry))) (now (output .entry)) (now (output .exit)) ⌝ }
 {
-    let down = sizes::tiles_along(layer, layer.rows);
-    let across = sizes::tiles_along(layer, layer.columns);
-    let line = tile / across;
-    let rows = held_in(layer, line % down, layer.rows);
-    let columns = held_in(layer, tile % across, layer.columns);
-    let from = (line / down * layer.rows + rows.first) * layer.columns;
-    let to = from + rows.count * layer.columns;
-    store_rows(&mut output[from..to], words, layer, rows, columns);
+    let place = place::place_of(layer, tile);
+    let rows = held_in(layer, place.row, layer.rows);
+    let columns = held_in(layer, place.column, layer.columns);
+    let from = place.channel * (layer.rows * layer.columns);
+    store_rows(&mut output[from..], words, layer, rows, columns);
 }

@@ -7,8 +7,9 @@ use native.Mathlib.Omega.{arith}
 use lib.ListN.{length, take, length-append}
 use lib.Seq.{length-take-le, getD-take}
 use borrow.Author.Needs.{needs}
-use borrow.Rule.Slice.PartMut.{postOf}
+use borrow.Rule.Slice.PartMut.{putMid, postOf}
 use denote.Ref.{now}
+use Rattle.algebra.specs.Places.{Changed}
 use Rattle.algebra.specs.PlacesLaws.{written-as, changed-written, changed-part, changed-again}
 use Rattle.layer.specs.Shape.{tileOf}
 use Rattle.layer.specs.Direct.{directAt}
@@ -167,7 +168,8 @@ returns c =
     let k = one (sizes all) - 0 in
     let a = area (source tile .args .layer) in
     let none = changed-written 0 k (cleared all .clear .ensures) in
-    let back = changed-part (ys all) (rs tile) 0 k (omega (arith, lent-le all)) (omega (arith, words-length tile, area-is (sizes all))) in
+    let back : Changed 0 0 (0 + k) (ys all) (putMid 0 k (ys all) (rs tile)) =
+    changed-part (ys all) (rs tile) 0 k (omega (arith, lent-le all)) (omega (arith, words-length tile, area-is (sizes all))) in
     let small : 0 + k ≤ 3 * a = omega (arith, area-is (sizes all)) in (
       written-as (c .before .store-tile .ensures) (λ p l h. h) (λ p h. h) (λ p below e. held tile p below e .1),
       changed-again 0 (3 * a) (omega arith) (omega arith) (omega arith) small

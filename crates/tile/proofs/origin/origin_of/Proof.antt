@@ -1,14 +1,15 @@
 -- `origin_of` takes the place of the tile to the grid. The tiles begin within what the crop keeps, so no coordinate is large.
 use mathlib.Core.Path.{ap, _∙_}
 use Prim.Native.Nat.{ℕ, _+_, _*_, _-_, _≤_, _<_}
-use native.Mathlib.Nat.{mul-le-mul, mod-lt}
+use native.Mathlib.Nat.{mul-le-mul}
 use native.Mathlib.Omega.{arith}
 use borrow.Author.Needs.{needs}
 use Rattle.layer.specs.declared.shape.Layer.{Layer}
-use Rattle.layer.specs.Shape.{tileSide, gridStep, span, tilesAcross, tileRows, tileColumns}
-use Rattle.layer.specs.ChecksLaws.{InRange, Planned}
+use Rattle.layer.specs.Shape.{tileSide, gridStep, span, tilesAcross}
+use Rattle.layer.specs.ChecksLaws.{InRange}
 use Rattle.layer.specs.TileSizes.{rows-wanted, columns-wanted, across-high, tile-side-low}
-use Rattle.layer.specs.TileLaws.{planned-tiled, line-some, span-is, step-range, across-starts, tileRow, tileColumn, tile-channel-lt}
+use Rattle.layer.specs.TileLaws.{planned-tiled, span-is, step-range, across-starts, tileRow, tileColumn, tile-channel-lt}
+use Rattle.tile.proofs.Sizes.{tile-row-lt, tile-column-lt}
 use Rattle.tile.proofs.origin.origin_of.Statement.{statement}
 use Rattle.tile.proofs.origin.origin_of.Tie as tie
 
@@ -20,13 +21,6 @@ start-high l count first index r some end before =
     let begins : index * tileSide l < span l count = across-starts (tileSide l) (span l count) index (omega (arith, tile-side-low l r)) before in
     omega (arith, span-is l count some)
 
-module _ (l : Layer) (plan : Planned l) (t : ℕ) where
-  row-lt : tileRow l t < tileRows l
-  row-lt = mod-lt _ (line-some l (planned-tiled l plan) (l .rows) (plan .rows-low))
-
-  column-lt : tileColumn l t < tileColumns l
-  column-lt = mod-lt t (line-some l (planned-tiled l plan) (l .columns) (plan .columns-low))
-
 place-of-requires : tie.Need-place-of-requires
 place-of-requires c κs = search needs
 
@@ -37,7 +31,7 @@ grid-start-requires c κs =
     let plan = s .pre .0 in (
       plan .shape,
       omega (arith, plan .rows-end, plan .full-height-high),
-      omega (arith, c .place-of .ensures .1, row-lt l plan (s .args .tile), across-high l (l .rows) (rows-wanted l plan)),
+      omega (arith, c .place-of .ensures .1, tile-row-lt l plan (s .args .tile), across-high l (l .rows) (rows-wanted l plan)),
     )
 
 grid-start-requires-2 : tie.Need-grid-start-requires-2
@@ -47,7 +41,7 @@ grid-start-requires-2 c κs =
     let plan = s .pre .0 in (
       plan .shape,
       omega (arith, plan .columns-end, plan .full-width-high),
-      omega (arith, c .before .place-of .ensures .2, column-lt l plan (s .args .tile), across-high l (l .columns) (columns-wanted l plan)),
+      omega (arith, c .before .place-of .ensures .2, tile-column-lt l plan (s .args .tile), across-high l (l .columns) (columns-wanted l plan)),
     )
 
 returns : tie.Need-returns
@@ -65,13 +59,14 @@ returns c =
         row = omega (
           arith,
           row,
-          start-high l (l .rows) (l .top) (tileRow l t) (plan .shape) (plan .rows-low) (omega (arith, plan .rows-end, plan .full-height-high)) (row-lt l plan t),
+          start-high l (l .rows) (l .top) (tileRow l t) (plan .shape) (plan .rows-low) (omega (arith, plan .rows-end, plan .full-height-high))
+              (tile-row-lt l plan t),
         );
         column = omega (
           arith,
           column,
           start-high l (l .columns) (l .left) (tileColumn l t) (plan .shape) (plan .columns-low) (omega (arith, plan .columns-end, plan .full-width-high))
-              (column-lt l plan t),
+              (tile-column-lt l plan t),
         );
       },
     )
