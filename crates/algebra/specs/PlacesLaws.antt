@@ -133,6 +133,9 @@ module _ {A : Type 0} {d : A} where
 -- ---- changes between two places
 
 module _ {A : Type 0} {d : A} where
+  pub changed-nothing : {from to : ℕ} {xs : List A} → Changed d from to xs xs
+  changed-nothing = record { size = refl; before = λ p l. refl; after = λ p l. refl }
+
   -- a part that was lent and came back
   pub changed-part : (xs ys : List A) (a k : ℕ) → a + k ≤ length xs → length ys ≡ k → Changed d a (a + k) xs (putMid a k xs ys)
   changed-part xs ys a k le len = record {

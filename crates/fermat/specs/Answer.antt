@@ -2,13 +2,13 @@
 use mathlib.Core.Path.{_≡_}
 use mathlib.Core.Bool.{Bool, true, _&&_}
 use mathlib.Core.List.{List, [], _∷_}
-use Prim.Native.Nat.{ℕ, zero, suc, _<_, _≤_}
+use Prim.Native.Nat.{ℕ, _<_, _≤_}
 use lib.Dec.{ltb, eqb}
 use lib.ListN.{length, getD}
 use Rattle.algebra.specs.Places.{table}
 use Rattle.fermat.specs.Field.{modulus, points}
 use Rattle.fermat.specs.Transform.{transformIn, inverseIn}
-use Rattle.fermat.specs.Rules.{Rule, rule, firstBroken, inside}
+use Rattle.fermat.specs.Rules.{Rule, rule, firstBroken, inside, outcome}
 
 -- every word is below m
 abbrev pub allBelow : ℕ → List ℕ → Bool
@@ -25,11 +25,6 @@ transformRules field words =
 
 unfoldable pub transformCode : ℕ → List ℕ → ℕ
 transformCode field words = firstBroken (transformRules field words)
-
--- the words that stand in the buffer in the end: those made where the code is 0, else those lent
-abbrev pub outcome : (code : ℕ) → (made lent : List ℕ) → List ℕ
-outcome zero made lent = made
-outcome (suc code) made lent = lent
 
 -- an operation in a field, on N numbers given by their index
 abbrev pub Operation : Type 0

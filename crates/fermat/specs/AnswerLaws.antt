@@ -9,8 +9,8 @@ use lib.Dec.{ltb}
 use lib.ListN.{length, getD}
 use borrow.Author.Tests.{ltb-true, lt-ltb, eqb-true, eq-eqb}
 use Rattle.fermat.specs.Field.{modulus, points}
-use Rattle.fermat.specs.RulesLaws.{none-broken, all-hold, both-true, inside-low, inside-high, inside-from}
-use Rattle.fermat.specs.Answer.{allBelow, transformRules, transformCode, Accepted, Operation, row, outcome, answered}
+use Rattle.fermat.specs.RulesLaws.{none-broken, all-hold, both-true, inside-low, inside-high, inside-from, outcome-made, outcome-lent}
+use Rattle.fermat.specs.Answer.{allBelow, transformRules, transformCode, Accepted, Operation, row, answered}
 
 -- ---- every word is below m
 
@@ -49,12 +49,8 @@ module _ (field : ℕ) (words : List ℕ) where
 
   pub answered-accepted : (operation : Operation) → transformCode field words ≡ 0 → answered operation field words ≡ row operation field words
   unfolding answered
-  answered-accepted operation e = ap (λ (code : ℕ). outcome code (row operation field words) words) e
+  answered-accepted operation e = outcome-made (row operation field words) words e
 
   pub answered-refused : (operation : Operation) → (transformCode field words ≡ 0 → ⊥) → answered operation field words ≡ words
   unfolding answered
-  answered-refused operation n = go (transformCode field words) n
-    where
-      go : (code : ℕ) → (code ≡ 0 → ⊥) → outcome code (row operation field words) words ≡ words
-      go zero n = absurd (n refl)
-      go (suc code) n = refl
+  answered-refused operation n = outcome-lent (row operation field words) words (transformCode field words) n

@@ -1,7 +1,7 @@
 -- Rules in a fixed order: a check answers with the number of the first rule that does not hold, or with 0. The laws are in `RulesLaws`.
 use mathlib.Core.Bool.{Bool, _&&_, cond}
 use mathlib.Core.List.{List, [], _∷_}
-use Prim.Native.Nat.{ℕ}
+use Prim.Native.Nat.{ℕ, zero, suc}
 use lib.Dec.{leb}
 
 -- a rule: the number that its breach is answered with, and whether it holds
@@ -16,3 +16,8 @@ firstBroken (rule number holds ∷ rules) = cond holds (firstBroken rules) numbe
 -- x is from low to high
 unfoldable pub inside : (low high x : ℕ) → Bool
 inside low high x = leb low x && leb x high
+
+-- what stands in the end: what was made where the code is 0, else what was lent
+abbrev pub outcome : {A : Type 0} → (code : ℕ) → (made lent : A) → A
+outcome zero made lent = made
+outcome (suc code) made lent = lent

@@ -3,12 +3,12 @@
 use mathlib.Core.Path.{_≡_, refl, sym, ap, _∙_, subst}
 use mathlib.Core.Bool.{Bool, true, false, not, cond, _&&_}
 use mathlib.Core.List.{List, [], _∷_}
-use Prim.Native.Nat.{ℕ, _<_, _≤_}
+use Prim.Native.Nat.{ℕ, zero, suc, _<_, _≤_}
 use native.Mathlib.Omega.{arith}
 use lib.Dec.{T, leb, ltb, ltb→lt}
 use mir.Facts.{and-yes}
 use borrow.Author.Tests.{not-true, not-false, leb-true, le-leb}
-use Rattle.fermat.specs.Rules.{Rule, rule, firstBroken, inside}
+use Rattle.fermat.specs.Rules.{Rule, rule, firstBroken, inside, outcome}
 
 -- ---- the code's way: test after test
 
@@ -73,3 +73,12 @@ module _ (low high x : ℕ) where
   pub inside-from : low ≤ x → x ≤ high → inside low high x ≡ true
   unfolding inside
   inside-from l h = rw (le-leb low x l, le-leb x high h)
+
+-- ---- what stands in the end
+
+pub outcome-made : {A : Type 0} (made lent : A) {code : ℕ} → code ≡ 0 → outcome code made lent ≡ made
+outcome-made made lent e = ap (λ (code : ℕ). outcome code made lent) e
+
+pub outcome-lent : {A : Type 0} (made lent : A) (code : ℕ) → (code ≡ 0 → ⊥) → outcome code made lent ≡ lent
+outcome-lent made lent zero broken = absurd (broken refl)
+outcome-lent made lent (suc code) broken = refl

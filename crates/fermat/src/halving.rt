@@ -6,15 +6,7 @@ ghost use Rattle.fermat.specs.Butterfly.{Bound, AtMost};
 ghost use Rattle.fermat.specs.Halving.{Forward, Inverse, Grid, Filled};
 use crate::butterfly::Step;
 use crate::butterfly::stage;
-
-fn least(a: usize, b: usize) -> usize
-    ensures { λ r. ⌜ r ≡ min a b ⌝ }
-{
-    if a < b {
-        return a;
-    }
-    b
-}
+use crate::number::lesser;
 
 // At the root 2^unit, rows in bit-reversed order at the end. Rows from `filled` on are 0, and their butterflies are left out.
 pub fn forward(
@@ -36,7 +28,7 @@ pub fn forward(
     if 0 < levels {
         let below = levels - 1;
         let half = words.len() / 2;
-        let rows = least(filled, 1usize << below);
+        let rows = lesser(filled, 1usize << below);
         stage(words, rows, half, lanes, Step::Forward, unit, bits, bound);
         let next_unit = unit * 2;
         let next_bound = bound * 2;

@@ -8,6 +8,7 @@ mod butterfly;
 pub mod corner;
 pub mod field;
 pub mod halving;
+pub mod number;
 pub mod order;
 pub mod product;
 pub mod residues;

@@ -1,5 +1,6 @@
 -- definitions, in the order of the request
 pub mod Shape
+pub mod Numbers
 pub mod Direct
 pub mod Load
 pub mod Weights

@@ -18,7 +18,7 @@ use Rattle.fermat.proofs.Parts.{first-length, whole-length, second, sec
 use Rattle.fermat.proofs.Levels.{Level, level, Split, split}
 use Rattle.fermat.proofs.Recursion.{forward-one, forward-step}
 use Rattle.fermat.proofs.butterfly.stage.Reads as stage-reads
-use Rattle.fermat.proofs.halving.least.Reads as least-reads
+use Rattle.fermat.proofs.number.lesser.Reads as lesser-reads
 use Rattle.fermat.proofs.halving.forward.Reads as forward
 use Rattle.fermat.proofs.halving.forward.Kinds as forward-kinds
 use Rattle.fermat.proofs.halving.+forward.Lts-forward as forward-lts
@@ -35,7 +35,7 @@ abbrev forward-below : ℕ → In 1 forward-kinds.ps
 forward-below t = and 1 forward-kinds.ps (falls 1 forward-kinds.ps _<_ μ-forward t) forward.Pre
 
 abbrev calls : ℕ → forward-lts.Claims
-calls t = (least-reads.Asked, least-reads.Learnt, stage-reads.Asked, stage-reads.Learnt, forward-below t, forward.Post)
+calls t = (lesser-reads.Asked, lesser-reads.Learnt, stage-reads.Asked, stage-reads.Learnt, forward-below t, forward.Post)
 
 module _ (t : ℕ) where
   -- the numbers of the level, past the test
@@ -45,10 +45,10 @@ module _ (t : ℕ) where
   sizes c = let s = c .before .before in level (c .if1 .taken) (s .pre .1 .0) (s .pre .1 .1 .0)
 
   -- the rows of the stage
-  chosen : (c : forward-lts.After-least (calls t) (forward-at t) forward.Post) →
+  chosen : (c : forward-lts.After-lesser (calls t) (forward-at t) forward.Post) →
       let a = c .before .before .before .args in
-      c .least .result ≡ min (a .filled) (2 ^ (a .levels - 1))
-  chosen c = let z = sizes (c .before) in rw (z .shl) at (c .least .ensures)
+      c .lesser .result ≡ min (a .filled) (2 ^ (a .levels - 1))
+  chosen c = let z = sizes (c .before) in rw (z .shl) at (c .lesser .ensures)
 
   -- after the stage: the length of the list, and what it holds
   staged-length : (c : forward-lts.After-stage (calls t) (forward-at t) forward.Post) →
@@ -57,13 +57,13 @@ module _ (t : ℕ) where
 
   parts : (c : forward-lts.After-stage (calls t) (forward-at t) forward.Post) →
       let a = c .before .before .before .before .before .args in
-      Split (a .bits) (a .bound) (a .unit) (2 ^ (a .levels - 1)) (length (now (a .words)) / 2) (a .lanes) (c .before .before .least .result)
+      Split (a .bits) (a .bound) (a .unit) (2 ^ (a .levels - 1)) (length (now (a .words)) / 2) (a .lanes) (c .before .before .lesser .result)
       (now (a .words)) (c .stage .last .0)
   parts c =
       let s = c .before .before .before .before .before in
       let a = s .args in
       let z = sizes (c .before .before .before) in
-      split (a .bits) (a .bound) (a .unit) (2 ^ (a .levels - 1)) (length (now (a .words)) / 2) (a .lanes) (a .filled) (c .before .before .least .result)
+      split (a .bits) (a .bound) (a .unit) (2 ^ (a .levels - 1)) (length (now (a .words)) / 2) (a .lanes) (a .filled) (c .before .before .lesser .result)
       (now (a .words)) (c .stage .last .0) (z .half) (z .whole) (c .stage .kept .0) (pow-pos (a .levels - 1)) (chosen (c .before .before))
       (s .pre .1 .1 .1 .1) (c .stage .ensures)
 
@@ -80,33 +80,33 @@ module _ (t : ℕ) where
   sub-below : forward-lts.Need-sub-below (calls t) (forward-at t) forward.Post
   sub-below c = search needs
 
-  cast-least : forward-lts.Need-cast-least (calls t) (forward-at t) forward.Post
-  cast-least c = omega (arith, c .if1, c .before .before .pre .1 .1 .0)
+  cast-lesser : forward-lts.Need-cast-lesser (calls t) (forward-at t) forward.Post
+  cast-lesser c = omega (arith, c .if1, c .before .before .pre .1 .1 .0)
 
-  shl-least : forward-lts.Need-shl-least (calls t) (forward-at t) forward.Post
-  shl-least c = omega (arith, c .if1, c .before .before .pre .1 .1 .0)
+  shl-lesser : forward-lts.Need-shl-lesser (calls t) (forward-at t) forward.Post
+  shl-lesser c = omega (arith, c .if1, c .before .before .pre .1 .1 .0)
 
-  least-requires : forward-lts.Need-least-requires (calls t) (forward-at t) forward.Post
-  least-requires c κs = search needs
+  lesser-requires : forward-lts.Need-lesser-requires (calls t) (forward-at t) forward.Post
+  lesser-requires c κs = search needs
 
   stage-requires : forward-lts.Need-stage-requires (calls t) (forward-at t) forward.Post
   stage-requires c κs =
       let s = c .before .before .before .before in
       let a = s .args in
       let z = sizes (c .before .before) in
-      let rows = c .before .least .result in
+      let rows = c .before .lesser .result in
       let is = chosen (c .before) in
       let some = s .pre .1 .1 .1 .1 .some in
       let above = pow-pos (a .levels - 1) in
-      let least : rows ≤ 2 ^ (a .levels - 1) = omega (arith, is) in (
+      let lesser : rows ≤ 2 ^ (a .levels - 1) = omega (arith, is) in (
         s .pre .1 .0,
         (
           record {
             whole = z .whole;
-            inside = omega (arith, z .half, mul-le-mul-right (a .lanes) least);
+            inside = omega (arith, z .half, mul-le-mul-right (a .lanes) lesser);
             some = omega (arith, is, some, above);
             step = z .step;
-            turns = omega (arith, z .turns, mul-le-mul-left (a .unit) least);
+            turns = omega (arith, z .turns, mul-le-mul-left (a .unit) lesser);
           },
           s .pre .1 .1 .1 .0,
         ),
@@ -223,9 +223,9 @@ pub +forward-spec : {M : Type 1} → statement M
     close μ-forward
     (λ t. forward-lts.spec (calls t) (forward-at t) forward.Post
     (sub-below t)
-    (cast-least t)
-    (shl-least t)
-    (least-requires t)
+    (cast-lesser t)
+    (shl-lesser t)
+    (lesser-requires t)
     (stage-requires t)
     (mul-next-unit t)
     (mul-next-bound t)

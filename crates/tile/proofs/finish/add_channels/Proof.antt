@@ -1,9 +1,10 @@
 -- Map channel after map channel is added; at the end all are.
-use mathlib.Core.Path.{_≡_, refl, subst}
+use mathlib.Core.Path.{_≡_, subst}
 use Prim.Native.Nat.{ℕ, _-_, _≤_}
 use native.Mathlib.Omega.{arith}
 use borrow.Author.Needs.{needs}
 use denote.Ref.{now}
+use Rattle.algebra.specs.PlacesLaws.{changed-nothing}
 use Rattle.tile.specs.Channel.{Added}
 use Rattle.tile.proofs.Adding.{added-none}
 use Rattle.tile.proofs.finish.add_channels.Statement.{statement}
@@ -20,7 +21,7 @@ loop-holds c =
     let s = c .before in
     let g = s .args in (
       omega arith,
-      added-none (g .layer) (now (g .map)) (now (g .kernel)) (g .origin) (record { size = refl; before = λ p h. refl; after = λ p h. refl }) (s .pre .1),
+      added-none (g .layer) (now (g .map)) (now (g .kernel)) (g .origin) changed-nothing (s .pre .1),
     )
 
 add-channel-requires : tie.Need-add-channel-requires Inv-loop μ-loop

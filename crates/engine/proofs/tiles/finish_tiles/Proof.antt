@@ -1,0 +1,74 @@
+-- Tile after tile is written; at the end all tiles from `from` up to `to` are.
+use mathlib.Core.Path.{_≡_, sym}
+use Prim.Native.Nat.{_-_, _≤_}
+use native.Mathlib.Omega.{arith}
+use borrow.Author.Needs.{needs}
+use Rattle.algebra.specs.Places.{Changed}
+use Rattle.algebra.specs.PlacesLaws.{changed-nothing, changed-again}
+use Rattle.engine.specs.Call.{scratchWords}
+use Rattle.engine.proofs.TilesWritten.{TilesWritten, no-tile, one-more-tile, written-finished}
+use Rattle.engine.proofs.tiles.finish_tiles.Statement.{statement}
+use Rattle.engine.proofs.tiles.finish_tiles.Tie as tie
+
+abbrev Inv-loop : tie.InvT-loop
+Inv-loop layer from to map kernel output₀ scratch₀ tile₀ output scratch tile =
+    (from ≤ tile) × (tile ≤ to) × TilesWritten layer map kernel from tile output₀ output
+    × Changed 0 0 (scratchWords layer) scratch₀ scratch
+
+abbrev μ-loop : tie.MeasureT-loop
+μ-loop layer from to map kernel output₀ scratch₀ tile₀ output scratch tile = to - tile
+
+loop-holds : tie.Need-loop-holds Inv-loop μ-loop
+loop-holds c = (omega arith, omega arith, no-tile _ _ _ _, changed-nothing)
+
+finish-tile-requires : tie.Need-finish-tile-requires Inv-loop μ-loop
+finish-tile-requires c κs =
+    let s = c .before .before .before .before .before in
+    let inv = c .before .before .before .loop .inv in
+    (rw (sym (inv .2 .size), sym (inv .3 .size)) at (s .pre .0), omega (arith, s .pre .1))
+
+add-tile : tie.Need-add-tile Inv-loop μ-loop
+add-tile c = search needs
+
+loop-less : tie.Need-loop-less Inv-loop μ-loop
+loop-less c = search needs
+
+loop-again : tie.Need-loop-again Inv-loop μ-loop
+loop-again c =
+    let s = c .before .before .before .before .before .before .before .before .before in
+    let loop = c .before .before .before .before .before .before .before .loop in
+    let one = c .before .before .before .finish-tile .ensures in
+    let words = scratchWords (s .args .layer) in (
+      omega arith,
+      omega arith,
+      one-more-tile _ _ _ _ (loop .tile) (loop .inv .0) (loop .inv .2) (one .0),
+      changed-again 0 words (omega arith) (omega arith) (omega arith) (omega arith) (loop .inv .3) (one .1),
+    )
+
+same-length : tie.Need-same-length Inv-loop μ-loop
+same-length c = search needs
+
+same-length-2 : tie.Need-same-length-2 Inv-loop μ-loop
+same-length-2 c = search needs
+
+returns : tie.Need-returns Inv-loop μ-loop
+returns c =
+    let s = c .before .before .before in
+    let loop = c .before .loop in
+    let last : loop .tile ≡ s .args .to = omega arith in
+    (written-finished _ _ _ _ (s .args .to) (rw last at (loop .inv .2)), loop .inv .3)
+
+pub finish-tiles-spec : {M : Type 1} → statement M
+finish-tiles-spec =
+    tie.close
+    (tie.spec
+    Inv-loop
+    μ-loop
+    loop-holds
+    finish-tile-requires
+    add-tile
+    loop-less
+    loop-again
+    same-length
+    same-length-2
+    returns)

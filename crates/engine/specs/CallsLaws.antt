@@ -1,0 +1,157 @@
+-- What a list of calls comes to: the job and the output after it, by the sum of the accepted calls' budgets. A whole run is such a list. It
+-- rests on the laws of the checks and on those of finished tiles.
+use mathlib.Core.Path.{_≡_, refl, sym, ap, _∙_}
+use mathlib.Core.Bool.{true, false}
+use mathlib.Core.List.{List, [], _∷_, _++_}
+use Prim.Native.Nat.{ℕ, zero, suc, _+_, _-_, _<_, min}
+use native.Mathlib.Nat.{add-zero, zero-add, add-assoc}
+use native.Mathlib.Omega.{arith}
+use lib.IntN.{ℤ}
+use lib.ListN.{length}
+use borrow.Author.Tests.{le-leb}
+use Rattle.algebra.specs.Places.{table}
+use Rattle.fermat.specs.Rules.{Rule, rule, firstBroken, outcome}
+use Rattle.layer.specs.declared.shape.Layer.{Layer}
+use Rattle.layer.specs.Shape.{tileTotal}
+use Rattle.layer.specs.Direct.{directAt}
+use Rattle.layer.specs.Checks.{shapeRules, outputRules, callRules, runCode, jobCode}
+use Rattle.layer.specs.ChecksLaws.{Callable, planned, job-callable}
+use Rattle.engine.specs.declared.job.Job.{Job}
+use Rattle.engine.specs.declared.job.Progress.{Progress}
+use Rattle.engine.specs.Call.{startOf, countOf, accepted, refused, finished, callCode, Called}
+use Rattle.engine.specs.Calls.{Call, Chained, jobAfter, outputAfter, acceptedCalls, acceptedBudgets, JobCalls, outputOf, Reaches}
+use Rattle.engine.specs.FinishedLaws.{finished-none, finished-then, finished-all}
+
+-- ---- one call
+
+-- what an accepted call was lent, and what it comes to
+pub record Took (call : Call) : Type 0 where
+  pub callable : Callable (call .job .layer) (call .map) (call .kernel) (length (call .output)) (length (call .scratch))
+  pub moved : call .progress .job ≡ record { layer = call .job .layer; next = call .job .next + countOf (call .job) (call .budget) }
+  pub writes : call .output-left ≡ finished (call .job .layer) (call .map) (call .kernel)
+      (call .job .next) (call .job .next + countOf (call .job) (call .budget)) (call .output)
+
+-- what a refused one comes to
+record Kept (call : Call) : Type 0 where
+  moved : call .progress .job ≡ call .job
+  writes : call .output-left ≡ call .output
+
+module _ (call : Call) where
+  -- the code is what the checks answer
+  abbrev checked : ℕ
+  checked = callCode (call .job) (call .map) (call .kernel) (call .output) (call .scratch)
+
+  code-is : call .progress .code ≡ checked
+  code-is = ap (λ (p : Progress). p .code) (call .promise .answers) ∙ of checked
+    where
+      of : (code : ℕ) → outcome code (accepted (call .job) (countOf (call .job) (call .budget))) (refused (call .job) code) .code ≡ code
+      of zero = refl
+      of (suc code) = refl
+
+  pub took : call .progress .code ≡ 0 → Took call
+  took e =
+      let passed : checked ≡ 0 = sym code-is ∙ e in
+      record {
+        callable =
+            job-callable (call .job .layer) (call .map) (call .kernel) (length (call .output)) (length (call .scratch)) (call .job .next) passed .0;
+        moved = ap (λ (p : Progress). p .job) (rw passed at (call .promise .answers));
+        writes = rw passed at (call .promise .writes);
+      }
+
+  kept : {code : ℕ} → call .progress .code ≡ suc code → Kept call
+  kept {code} e =
+      let broken : checked ≡ suc code = sym code-is ∙ e in
+      record { moved = ap (λ (p : Progress). p .job) (rw broken at (call .promise .answers)); writes = rw broken at (call .promise .writes) }
+
+-- ---- call after call
+
+module _ (l : Layer) (map kernel first : List ℤ) where
+  -- the job and the output once the accepted budgets come to `budgets`
+  record After (budgets : ℕ) (job : Job) (output : List ℤ) : Type 0 where
+    moved : job ≡ record { layer = l; next = min (tileTotal l) budgets }
+    written : output ≡ finished l map kernel 0 (min (tileTotal l) budgets) first
+
+  -- from the index on, the lesser of the budget and the tiles left
+  reach : (total budgets budget : ℕ) → min total budgets + min budget (total - min total budgets) ≡ min total (budgets + budget)
+  reach total budgets budget = omega arith
+
+  after-call : (budgets : ℕ) (call : Call) → (call .progress .code ≡ 0 → (call .map ≡ map) × (call .kernel ≡ kernel))
+      → After budgets (call .job) (call .output)
+      → After (budgets + outcome (call .progress .code) (call .budget) 0) (call .progress .job) (call .output-left)
+  after-call budgets call lent before = go (call .progress .code) refl
+    where
+      go : (code : ℕ) → call .progress .code ≡ code → After (budgets + outcome code (call .budget) 0) (call .progress .job) (call .output-left)
+      go zero e =
+          let t : Took call = took call e in
+          let to = reach (tileTotal l) budgets (call .budget) in
+          record {
+            moved = rw (before .moved, to) at (t .moved);
+            written =
+                rw (before .moved, to, before .written, lent e .0, lent e .1) at (t .writes)
+                ∙ finished-then l map kernel 0 (min (tileTotal l) budgets) _ first (omega arith) (omega arith);
+          }
+      go (suc code) e =
+          let k : Kept call = kept call e in
+          rw add-zero (record { moved = k .moved ∙ before .moved; written = k .writes ∙ before .written })
+
+  after-calls : (budgets : ℕ) {job : Job} {output : List ℤ} (calls : List Call) → Chained map kernel job output calls
+      → After budgets job output → After (budgets + acceptedBudgets calls) (jobAfter job calls) (outputAfter output calls)
+  after-calls budgets [] chained before = rw add-zero before
+  after-calls budgets (call ∷ calls) (job, output, lent, rest) before =
+      let budget : ℕ = outcome (call .progress .code) (call .budget) 0 in
+      rw (← (add-assoc budgets budget (acceptedBudgets calls)))
+      (after-calls (budgets + budget) calls rest (after-call budgets call lent (rw (job, output) before)))
+
+-- the checks 1 to 16 pass with scratch of some length
+pub record Passes (l : Layer) (map kernel : List ℤ) (output : ℕ) : Type 0 where
+  pub scratch : ℕ
+  pub callable : Callable l map kernel output scratch
+
+-- they do where a call was accepted: no call changes the layer or the length of the output
+passes : {map kernel : List ℤ} (job : Job) (output : List ℤ) (calls : List Call) → Chained map kernel job output calls
+    → 0 < acceptedCalls calls → Passes (job .layer) map kernel (length output)
+passes job output [] chained some = absurd (omega arith)
+passes {map} {kernel} job output (call ∷ calls) (same-job, same-output, lent, rest) some =
+    go (call .progress .code) refl (passes (call .progress .job) (call .output-left) calls rest)
+  where
+    go : (code : ℕ) → call .progress .code ≡ code
+        → (0 < acceptedCalls calls → Passes (call .progress .job .layer) map kernel (length (call .output-left)))
+        → Passes (job .layer) map kernel (length output)
+    go zero e later = record {
+      scratch = length (call .scratch);
+      callable = rw (same-job, same-output, lent e .0, lent e .1) at (took call e .callable);
+    }
+    go (suc code) e later =
+        let k : Kept call = kept call e in
+        rw (k .moved, k .writes, same-job, same-output) at (later (omega (arith, rw e at some)))
+
+-- ---- a whole list
+
+module _ {l : Layer} {map kernel : List ℤ} (list : JobCalls l map kernel) where
+  after : After l map kernel (list .first) (acceptedBudgets (list .calls)) (jobAfter (startOf l) (list .calls)) (outputOf list)
+  after = rw zero-add at (after-calls l map kernel (list .first) 0 (list .calls) (list .chained) start)
+    where
+      none : min (tileTotal l) 0 ≡ 0
+      none = omega arith
+
+      start : After l map kernel (list .first) 0 (startOf l) (list .first)
+      start = record { moved = rw none; written = rw (none, finished-none l map kernel 0 (list .first)) }
+
+  -- the job's index is the lesser of the tile total and the sum of the accepted calls' budgets
+  pub calls-job : jobAfter (startOf l) (list .calls) ≡ record { layer = l; next = min (tileTotal l) (acceptedBudgets (list .calls)) }
+  calls-job = after .moved
+
+  -- and the tiles below it are finished
+  pub calls-output : outputOf list ≡ finished l map kernel 0 (min (tileTotal l) (acceptedBudgets (list .calls))) (list .first)
+  calls-output = after .written
+
+  -- where a call was accepted, the checks 1 to 16 pass
+  pub calls-callable : 0 < acceptedCalls (list .calls) → Passes l map kernel (length (list .first))
+  calls-callable some = passes (startOf l) (list .first) (list .calls) (list .chained) some
+
+  -- budgets that reach the total: every output is a direct sum
+  pub reached : Reaches list → outputOf list ≡ table (length (list .first)) (directAt l map kernel)
+  reached reaches =
+      let may = calls-callable (reaches .some) .callable in
+      let all : min (tileTotal l) (acceptedBudgets (list .calls)) ≡ tileTotal l = omega (arith, reaches .enough) in
+      calls-output ∙ rw all (finished-all l map kernel (list .first) (planned l (may .plan)) (may .output-length))

@@ -1,0 +1,72 @@
+// A job: a layer and the index of its next tile. It is a value; each call takes it and hands back the moved job.
+use crate::checks::job_code;
+use crate::tiles::finish_tiles;
+use fermat::number::lesser;
+use fermat::residues::clear;
+use layer::shape::Layer;
+use layer::sizes;
+ghost use mathlib.Core.Path.{_≡_};
+ghost use Rattle.engine.specs.Call.{startOf, Called};
+
+pub struct Job {
+    pub layer: Layer,
+    pub next: usize, // the index of the next tile
+}
+
+// What a call answers.
+pub struct Progress {
+    pub code: usize, // the number of the first rule broken, or 0
+    pub count: usize, // tiles finished in the call
+    pub job: Job, // the moved job, or the job as given where the call is refused
+    pub done: bool, // no tile is left
+}
+
+impl Job {
+    // The layer's job at tile 0.
+    pub fn new(layer: Layer) -> Job
+        ensures { λ r. ⌜ r ≡ startOf layer ⌝ }
+    {
+        Job {
+            layer: layer,
+            next: 0,
+        }
+    }
+
+    // Finishes the lesser of the budget and the tiles left, and zeroes the first 3N² words of scratch. A refused call changes nothing.
+    pub fn advance(
+        self,
+        budget: usize,
+        map: &[i16],
+        kernel: &[i16],
+        output: &mut [i32],
+        scratch: &mut [u64],
+    ) -> Progress
+        ensures { λ r. ⌜ Called self budget (now (map .entry)) (now (kernel .entry)) (now (output .entry)) (now (scratch .entry)) r (now (output .exit)) (now (scratch .exit)) ⌝ }
+    {
+        let layer = self.layer;
+        let next = self.next;
+        let code = job_code(layer, next, map, kernel, output.len(), scratch.len());
+        if code != 0 {
+            return Progress {
+                code: code,
+                count: 0,
+                job: self,
+                done: false,
+            };
+        }
+        let total = sizes::tile_total(layer);
+        let count = lesser(budget, total - next);
+        let to = next + count;
+        finish_tiles(layer, next, to, map, kernel, output, scratch);
+        clear(scratch, 0, sizes::scratch_words(layer));
+        Progress {
+            code: 0,
+            count: count,
+            job: Job {
+                layer: layer,
+                next: to,
+            },
+            done: to == total,
+        }
+    }
+}

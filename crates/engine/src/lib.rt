@@ -1,0 +1,27 @@
+// Whole runs, and jobs that advance by a budget of tiles.
+use crate::job::Job;
+use crate::job::Progress;
+use layer::planner;
+use layer::shape::Layer;
+ghost use Rattle.layer.specs.Shape.{tileTotal};
+ghost use Rattle.engine.specs.Call.{startOf, Called};
+
+pub mod checks;
+pub mod job;
+pub mod pair;
+pub mod tiles;
+
+// A whole run: the job from tile 0 with the total as its budget. A refused plan has the total 0, and the job refuses it again.
+pub fn run(
+    layer: Layer,
+    map: &[i16],
+    kernel: &[i16],
+    output: &mut [i32],
+    scratch: &mut [u64],
+) -> Progress
+    ensures { λ r. ⌜ Called (startOf layer) (tileTotal layer) (now (map .entry)) (now (kernel .entry)) (now (output .entry)) (now (scratch .entry)) r (now (output .exit)) (now (scratch .exit)) ⌝ }
+{
+    let plan = planner::plan(layer);
+    let job = Job::new(layer);
+    job.advance(plan.tiles, map, kernel, output, scratch)
+}

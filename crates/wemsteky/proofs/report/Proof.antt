@@ -1,0 +1,24 @@
+-- The done mark as a number.
+use mathlib.Core.Path.{_≡_, refl, ap}
+use mathlib.Core.Bool.{Bool, true, false, cond}
+use mathlib.Core.List.{[], _∷_}
+use Prim.Native.Nat.{ℕ}
+use mir.Val.{boolByte}
+use borrow.Author.Needs.{needs}
+use Rattle.wemsteky.proofs.report.Statement.{statement}
+use Rattle.wemsteky.proofs.report.Tie as tie
+
+marked : (done : Bool) → _≡_ {A = ℕ} (boolByte done) (cond done 1 0)
+marked true = refl
+marked false = refl
+
+cast-t3 : tie.Need-cast-t3
+cast-t3 c = search needs
+
+returns : tie.Need-returns
+returns c =
+    let p = c .before .before .args .progress in
+    (refl, ap (λ (mark : ℕ). p .count ∷ p .job .next ∷ mark ∷ []) (marked (p .done)))
+
+pub report-spec : {M : Type 1} → statement M
+report-spec = tie.close (tie.spec cast-t3 returns)

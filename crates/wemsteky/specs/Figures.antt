@@ -1,0 +1,28 @@
+-- What the C functions leave in `figures`, and what one that makes a job's call promises.
+use mathlib.Core.Path.{_≡_}
+use mathlib.Core.Bool.{cond}
+use mathlib.Core.List.{List, [], _∷_}
+use Prim.Native.Nat.{ℕ}
+use lib.IntN.{ℤ}
+use Rattle.layer.specs.declared.shape.Plan.{Plan}
+use Rattle.engine.specs.declared.job.Job.{Job}
+use Rattle.engine.specs.declared.job.Progress.{Progress}
+use Rattle.engine.specs.Call.{Called}
+
+-- E, F, the tile total and 3N²
+abbrev pub planFigures : Plan → List ℕ
+planFigures plan = plan .height ∷ plan .width ∷ plan .tiles ∷ plan .scratch ∷ []
+
+-- the count, the index of the next tile, and 1 where done
+abbrev pub progressFigures : Progress → List ℕ
+progressFigures progress = progress .count ∷ progress .job .next ∷ cond (progress .done) 1 0 ∷ []
+
+-- a call of a job whose answer comes as its code and three figures
+pub record Reported
+    (job : Job) (budget : ℕ) (map kernel output : List ℤ) (scratch : List ℕ) (code : ℕ) (figures : List ℕ) (output-left : List ℤ) (scratch-left : List ℕ)
+    : Type 0
+  where
+    pub progress : Progress
+    pub called : Called job budget map kernel output scratch progress output-left scratch-left
+    pub code-is : code ≡ progress .code
+    pub figures-are : figures ≡ progressFigures progress

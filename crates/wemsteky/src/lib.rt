@@ -1,0 +1,82 @@
+// The C interface, declared in include/wemsteky.h. Each function takes its numbers apart, calls the library and puts the answer together.
+use engine::job::Job;
+use engine::job::Progress;
+use layer::numbers::layer_of;
+use layer::planner;
+ghost use mathlib.Core.Path.{_≡_};
+ghost use Rattle.fermat.specs.Answer.{transformCode, transformed, inverted};
+ghost use Rattle.layer.specs.Shape.{tileTotal};
+ghost use Rattle.layer.specs.Numbers.{layerOf};
+ghost use Rattle.layer.specs.Checks.{planOf};
+ghost use Rattle.engine.specs.Call.{startOf};
+ghost use Rattle.wemsteky.specs.Figures.{planFigures, progressFigures, Reported};
+
+// E, F, the tile total and 3N²; zeros where the layer is refused.
+#[no_mangle]
+pub extern "C" fn wemsteky_plan(layer: &[usize; 14], figures: &mut [usize; 4]) -> usize
+    ensures { λ r. ⌜ r ≡ planOf (layerOf (now (layer .entry))) .code ⌝ }
+    ensures { λ _. ⌜ now (figures .exit) ≡ planFigures (planOf (layerOf (now (layer .entry)))) ⌝ }
+{
+    let plan = planner::plan(layer_of(layer));
+    *figures = [plan.height, plan.width, plan.tiles, plan.scratch];
+    plan.code
+}
+
+// The count, the index of the next tile and the done mark of a call.
+fn report(progress: Progress, figures: &mut [usize; 3]) -> usize
+    ensures { λ r. ⌜ r ≡ progress .code ⌝ }
+    ensures { λ _. ⌜ now (figures .exit) ≡ progressFigures progress ⌝ }
+{
+    *figures = [progress.count, progress.job.next, progress.done as usize];
+    progress.code
+}
+
+#[no_mangle]
+pub extern "C" fn wemsteky_run(
+    layer: &[usize; 14],
+    map: &[i16],
+    kernel: &[i16],
+    output: &mut [i32],
+    scratch: &mut [u64],
+    figures: &mut [usize; 3],
+) -> usize
+    ensures { λ r. ⌜ Reported (startOf (layerOf (now (layer .entry)))) (tileTotal (layerOf (now (layer .entry)))) (now (map .entry)) (now (kernel .entry)) (now (output .entry)) (now (scratch .entry)) r (now (figures .exit)) (now (output .exit)) (now (scratch .exit)) ⌝ }
+{
+    let progress = engine::run(layer_of(layer), map, kernel, output, scratch);
+    report(progress, figures)
+}
+
+#[no_mangle]
+pub extern "C" fn wemsteky_job(
+    layer: &[usize; 14],
+    next: usize,
+    budget: usize,
+    map: &[i16],
+    kernel: &[i16],
+    output: &mut [i32],
+    scratch: &mut [u64],
+    figures: &mut [usize; 3],
+) -> usize
+    ensures { λ r. ⌜ Reported (record { layer = layerOf (now (layer .entry)); next = next }) budget (now (map .entry)) (now (kernel .entry)) (now (output .entry)) (now (scratch .entry)) r (now (figures .exit)) (now (output .exit)) (now (scratch .exit)) ⌝ }
+{
+    let job = Job {
+        layer: layer_of(layer),
+        next: next,
+    };
+    let progress = job.advance(budget, map, kernel, output, scratch);
+    report(progress, figures)
+}
+
+#[no_mangle]
+pub extern "C" fn wemsteky_transform(field: usize, words: &mut [u64]) -> usize
+    ensures { λ r. ⌜ (r ≡ transformCode field (now (words .entry))) × (now (words .exit) ≡ transformed field (now (words .entry))) ⌝ }
+{
+    fermat::transform(field, words)
+}
+
+#[no_mangle]
+pub extern "C" fn wemsteky_inverse(field: usize, words: &mut [u64]) -> usize
+    ensures { λ r. ⌜ (r ≡ transformCode field (now (words .entry))) × (now (words .exit) ≡ inverted field (now (words .entry))) ⌝ }
+{
+    fermat::inverse(field, words)
+}

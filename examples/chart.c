@@ -1,0 +1,63 @@
+/* A transposed convolution planned, run tile by tile, and a call that is refused; then a transform there and back. */
+#include <stdio.h>
+#include <string.h>
+
+#include "wemsteky.h"
+
+#define CHANNELS 2
+#define SIDE 24
+#define FULL 50
+#define SCRATCH 3072
+
+static int16_t map[SIDE * SIDE];
+static int32_t output[CHANNELS * FULL * FULL];
+static uint64_t scratch[SCRATCH];
+
+static int failed(const char *what, size_t code)
+{
+    fprintf(stderr, "%s: %zu\n", what, code);
+    return 1;
+}
+
+/* Runs the layer in budgets of two tiles and returns the code of the last call. */
+static size_t run_in_budgets(const size_t layer[14], const int16_t *kernel, size_t kernel_len, size_t figures[3])
+{
+    size_t next = 0, code;
+    do {
+        code = wemsteky_job(layer, next, 2, map, SIDE * SIDE, kernel, kernel_len, output, sizeof output / sizeof *output, scratch,
+                            SCRATCH, figures);
+        next = figures[1];
+    } while (code == 0 && !figures[2]);
+    return code;
+}
+
+int main(void)
+{
+    /* TCONV in F_4: one map channel of 24 by 24 to two channels of 50 by 50, K 4, S 2, P 0, peak 100, not cropped */
+    const size_t layer[14] = {1, 4, 1, CHANNELS, SIDE, SIDE, 4, 2, 0, 100, 0, 0, FULL, FULL};
+    const int16_t kernel[CHANNELS * 16] = {1, 2, 3, 4, 5, 6, 7, 8, 9, 10, 11, 12, 13, 14, 15, 16,
+                                           -1, 0, 0, 0, 0, -1, 0, 0, 0, 0, -1, 0, 0, 0, 0, -1};
+    size_t figures[4], progress[3], code;
+
+    code = wemsteky_plan(layer, figures);
+    if (code != 0) return failed("plan", code);
+    printf("plan %zu by %zu, %zu tiles, %zu words of scratch\n", figures[0], figures[1], figures[2], figures[3]);
+
+    map[0] = 100;
+    map[SIDE * SIDE - 1] = -100;
+    code = run_in_budgets(layer, kernel, CHANNELS * 16, progress);
+    if (code != 0) return failed("job", code);
+    printf("next tile %zu, done %zu\n", progress[1], progress[2]);
+    printf("first %d, last of channel 0 %d, last %d\n", output[0], output[FULL * FULL - 1], output[CHANNELS * FULL * FULL - 1]);
+
+    map[1] = 101; /* beyond the peak */
+    printf("refused %zu\n", run_in_budgets(layer, kernel, CHANNELS * 16, progress));
+
+    uint64_t words[32] = {0, 1}, there[32];
+    memcpy(there, words, sizeof words);
+    if ((code = wemsteky_transform(4, there, 32)) != 0) return failed("transform", code);
+    printf("entry 16 of the transform %llu\n", (unsigned long long)there[16]);
+    if ((code = wemsteky_inverse(4, there, 32)) != 0) return failed("inverse", code);
+    printf("back %s\n", memcmp(there, words, sizeof words) == 0 ? "yes" : "no");
+    return 0;
+}

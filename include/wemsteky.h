@@ -1,0 +1,58 @@
+/*
+ * The C interface of Wemsteky, a proved filter engine: convolution and transposed convolution of whole-number maps, exactly.
+ *
+ * A layer is fourteen numbers: kind field C M H W K S P peak top left h w.
+ *   kind 0 is convolution, 1 is transposed convolution; field is 4 or 5
+ *   C map channels of H by W, row by row, channel after channel; M output channels
+ *   kernel side K, stride S, padding P; the kernel is [outer][inner][a][b]
+ *   peak bounds the size of every map value
+ *   top left h w: the first row and column kept of the full output, and how many of each
+ *
+ * Every function accepts any numbers, lengths and values. It returns 0, or the number of the first check that fails; a refused call changes
+ * no output, scratch or words.
+ *
+ *   1 kind is not 0 or 1                  11 kernel length is not M C K K
+ *   2 field is not 4 or 5                 12 output length is not M h w
+ *   3 C or M outside 1 to 64              13 scratch is below 3 N N words
+ *   4 H or W outside 1 to 512             14 peak outside 1 to 32,767
+ *   5 K outside 1 to 11                   15 some map value above peak or below -peak
+ *   6 S outside 1 to 4                    16 some output channel's load above the limit
+ *   7 P above K - 1                       17 the index of the next tile above the total
+ *   8 the full output has no row or no    18 not N words to transform
+ *     column                              19 a word not below the field
+ *   9 the crop is empty or reaches beyond the full output
+ *
+ * A pointer of length 0 may not be null. Buffers may not overlap.
+ */
+#ifndef WEMSTEKY_H
+#define WEMSTEKY_H
+
+#include <stddef.h>
+#include <stdint.h>
+
+#ifdef __cplusplus
+extern "C" {
+#endif
+
+/* Checks 1 to 9. figures: rows and columns of the full output, all tiles, 3 N N words of scratch; zeros where the layer is refused. */
+size_t wemsteky_plan(const size_t layer[14], size_t figures[4]);
+
+/* Checks 1 to 16, then every tile. figures: tiles finished, index of the next tile, 1 where done; zeros where the call is refused. An
+ * accepted call leaves the first 3 N N words of scratch zero. */
+size_t wemsteky_run(const size_t layer[14], const int16_t *map, size_t map_len, const int16_t *kernel, size_t kernel_len,
+                    int32_t *output, size_t output_len, uint64_t *scratch, size_t scratch_len, size_t figures[3]);
+
+/* Checks 1 to 17, then the lesser of the budget and the tiles left, from tile `next` on. figures: tiles finished, index of the next tile (as
+ * given where the call is refused), 1 where no tile is left. */
+size_t wemsteky_job(const size_t layer[14], size_t next, size_t budget, const int16_t *map, size_t map_len, const int16_t *kernel,
+                    size_t kernel_len, int32_t *output, size_t output_len, uint64_t *scratch, size_t scratch_len, size_t figures[3]);
+
+/* Checks 2, 18 and 19, then the transform of N residues at the root 2 (N is 32 in field 4, 64 in field 5), or its inverse. */
+size_t wemsteky_transform(size_t field, uint64_t *words, size_t words_len);
+size_t wemsteky_inverse(size_t field, uint64_t *words, size_t words_len);
+
+#ifdef __cplusplus
+}
+#endif
+
+#endif
