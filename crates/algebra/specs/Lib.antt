@@ -8,6 +8,7 @@ pub mod SumLaws
 pub mod PowerLaws
 pub mod CongruenceLaws
 pub mod Integer
+pub mod SignLaws
 pub mod SizeLaws
 pub mod ResidueLaws
 pub mod PlacesLaws

@@ -1,35 +1,14 @@
 -- `size` takes a value below 0 from 0 in 32 bits, where 32,768 fits. It rests on the law that a negative has the same size.
-use mathlib.Core.Path.{_≡_, subst}
-use mathlib.Core.Bool.{true, false}
-use Prim.Native.Nat.{zero, suc, _+_, _≤_, _<_}
 use native.Mathlib.Omega.{arith}
 use borrow.Author.Needs.{needs}
-use borrow.Author.Tests.{ltb-true}
-use lib.Dec.{T}
-use lib.IntN.{ℤ, pos, negsuc, negℤ, _-ℤ_, +ℤ-idl}
-use lib.Signed.{mag, ltZ, nonNeg}
+use lib.IntN.{ℤ, negℤ}
 use mir.Facts.{toZ-ofZ, sfits-widen, fits-natAbs}
 use mir.Syntax.{w16, w32}
 use mir.Val.{SFits}
+use Rattle.algebra.specs.SignLaws.{zero-minus, below-zero, not-below, mag-neg}
 use Rattle.algebra.specs.SizeLaws.{size-neg}
 use Rattle.layer.proofs.values.size.Statement.{statement}
 use Rattle.layer.proofs.values.size.Tie as tie
-
-zero-minus : (z : ℤ) → pos 0 -ℤ z ≡ negℤ z
-zero-minus z = +ℤ-idl (negℤ z)
-
-below-zero : (z : ℤ) → ltZ z (pos 0) ≡ true → T (nonNeg (negℤ z))
-below-zero (pos n) e = let l : n < 0 = ltb-true n 0 e in absurd (omega arith)
-below-zero (negsuc n) e = tt
-
-not-below : (z : ℤ) → ltZ z (pos 0) ≡ false → T (nonNeg z)
-not-below (pos n) e = tt
-not-below (negsuc n) e = subst T e tt
-
-mag-neg : (z : ℤ) → mag (negℤ z) ≤ mag z + 1
-mag-neg (pos zero) = omega arith
-mag-neg (pos (suc n)) = omega arith
-mag-neg (negsuc n) = omega arith
 
 -- the negative of a value of 16 bits fits 32 bits
 neg-fits : (z : ℤ) → SFits w16 z → SFits w32 (negℤ z)
