@@ -1,4 +1,15 @@
-//! Direct sums, written from the request's formulas and independent of the engine.
+//! Direct sums and rules, written from the request's formulas and independent of the engine, and what its tests share.
 
+pub mod call;
 pub mod cases;
+pub mod checked;
+pub mod damage;
+pub mod direct;
+pub mod draw;
+pub mod engine;
+pub mod example;
+pub mod layer;
+pub mod list;
+pub mod random;
+pub mod rules;
 pub mod transform;

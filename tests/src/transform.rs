@@ -22,8 +22,9 @@ fn times(a: u64, b: u64, m: u64) -> u64 {
     (u128::from(a) * u128::from(b) % u128::from(m)) as u64
 }
 
-fn power(base: u64, exponent: usize, m: u64) -> u64 {
-    (0..exponent).fold(1, |product, _| times(product, base, m))
+/// The powers of a base from the power 0 on.
+fn powers(base: u64, count: usize, m: u64) -> Vec<u64> {
+    std::iter::successors(Some(1), |&power| Some(times(power, base, m))).take(count).collect()
 }
 
 /// The inverse of a modulo m by Euclid's algorithm: it needs no prime.
@@ -39,15 +40,12 @@ fn inverse_of(a: u64, m: u64) -> u64 {
     t0.rem_euclid(i128::from(m)) as u64
 }
 
+/// The sum over n of x[n] times the root to the power nk, for every k.
 fn sums(words: &[u64], root: u64, m: u64) -> Vec<u64> {
-    (0..words.len())
-        .map(|k| {
-            words
-                .iter()
-                .enumerate()
-                .fold(0, |sum, (n, &word)| (sum + times(word, power(root, n * k % words.len(), m), m)) % m)
-        })
-        .collect()
+    let places = 0..words.len();
+    let powers = powers(root, words.len() * words.len(), m);
+    let term = |n: usize, k: usize| times(words[n], powers[n * k], m);
+    places.clone().map(|k| places.clone().fold(0, |sum, n| (sum + term(n, k)) % m)).collect()
 }
 
 /// The sum over n of x[n] times 2 to the power nk, for every k.

@@ -24,6 +24,17 @@ use Rattle.engine.specs.FinishedLaws.{finished-none, finished-then, fini
 
 -- ---- one call
 
+-- the code is what the checks answer
+pub called-code : {job : Job} {budget : ℕ} {map kernel output : List ℤ} {scratch : List ℕ} {progress : Progress}
+    {output-left : List ℤ} {scratch-left : List ℕ} → Called job budget map kernel output scratch progress output-left scratch-left
+    → progress .code ≡ callCode job map kernel output scratch
+called-code {job} {budget} {map} {kernel} {output} {scratch} called =
+    ap (λ (p : Progress). p .code) (called .answers) ∙ by-code (callCode job map kernel output scratch)
+  where
+    by-code : (code : ℕ) → outcome code (accepted job (countOf job budget)) (refused job code) .code ≡ code
+    by-code zero = refl
+    by-code (suc code) = refl
+
 -- what an accepted call was lent, and what it comes to
 pub record Took (call : Call) : Type 0 where
   pub callable : Callable (call .job .layer) (call .map) (call .kernel) (length (call .output)) (length (call .scratch))
@@ -37,16 +48,11 @@ record Kept (call : Call) : Type 0 where
   writes : call .output-left ≡ call .output
 
 module _ (call : Call) where
-  -- the code is what the checks answer
   abbrev checked : ℕ
   checked = callCode (call .job) (call .map) (call .kernel) (call .output) (call .scratch)
 
   code-is : call .progress .code ≡ checked
-  code-is = ap (λ (p : Progress). p .code) (call .promise .answers) ∙ of checked
-    where
-      of : (code : ℕ) → outcome code (accepted (call .job) (countOf (call .job) (call .budget))) (refused (call .job) code) .code ≡ code
-      of zero = refl
-      of (suc code) = refl
+  code-is = called-code (call .promise)
 
   pub took : call .progress .code ≡ 0 → Took call
   took e =

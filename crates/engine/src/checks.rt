@@ -15,13 +15,13 @@ fn call_code(layer: Layer, map: &[i16], kernel: &[i16], output: usize, scratch: 
     requires { ⌜ Planned layer ⌝ }
     ensures { λ r. ⌜ r ≡ firstBroken (callRules layer (now (map .entry)) (now (kernel .entry)) output scratch) ⌝ }
 {
-    if map.len() != layer.inputs * layer.height * layer.width {
+    if map.len() != sizes::map_count(layer) {
         return 10;
     }
-    if kernel.len() != layer.outputs * layer.inputs * (layer.side * layer.side) {
+    if kernel.len() != sizes::kernel_count(layer) {
         return 11;
     }
-    if output != layer.outputs * layer.rows * layer.columns {
+    if output != sizes::output_count(layer) {
         return 12;
     }
     if scratch < sizes::scratch_words(layer) {

@@ -12,7 +12,7 @@ use Rattle.fermat.specs.Transform.{powerSum, transformAt}
 use Rattle.fermat.specs.Rules.{inside}
 use Rattle.fermat.specs.Answer.{transformCode, row, answered, transformed}
 use Rattle.layer.specs.declared.shape.Layer.{Layer}
-use Rattle.layer.specs.Shape.{convSize, tconvSize, fullHeight, fullWidth, transformLength, tilesAcross, tileTotal}
+use Rattle.layer.specs.Shape.{outputCount, convSize, tconvSize, fullHeight, fullWidth, transformLength, tilesAcross, tileTotal}
 use Rattle.layer.specs.Direct.{cell, conv, tconv, fullAt, directAt, productSum}
 use Rattle.layer.specs.Load.{load, loadsFit, withinPeak}
 use Rattle.layer.specs.Checks.{cropFits, planCode, runCode}
@@ -42,13 +42,9 @@ equals [] (y ∷ ys) = false
 equals (x ∷ xs) [] = false
 equals (x ∷ xs) (y ∷ ys) = equal x y && equals xs ys
 
--- M times h times w
-abbrev places : Layer → ℕ
-places l = l .outputs * l .rows * l .columns
-
 -- what a run answers with, given an output of the right length and just enough scratch
 abbrev code : Layer → (map kernel : List ℤ) → ℕ
-code l map kernel = runCode l map kernel (places l) (3 * (transformLength l * transformLength l))
+code l map kernel = runCode l map kernel (outputCount l) (3 * (transformLength l * transformLength l))
 
 -- the full output of a layer against other values of its shape
 abbrev against : Layer → (map kernel others : List ℤ) → ℤ
@@ -56,7 +52,7 @@ against l map kernel others =
     productSum (l .outputs) (fullHeight l) (fullWidth l) (fullAt l map kernel) (cell (fullHeight l) (fullWidth l) others)
 
 pub holds : Claim → Bool
-holds (frame l map kernel outputs) = eqb (code l map kernel) 0 && equals (table (places l) (directAt l map kernel)) outputs
+holds (frame l map kernel outputs) = eqb (code l map kernel) 0 && equals (table (outputCount l) (directAt l map kernel)) outputs
 holds (products forward backward x y kernel value) = equal (against forward x kernel y) value && equal (against backward y kernel x) value
 holds (plan l number) = eqb (planCode l) number
 holds (run l map kernel number) = eqb (code l map kernel) number

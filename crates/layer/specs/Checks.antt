@@ -8,7 +8,7 @@ use lib.ListN.{length}
 use Rattle.fermat.specs.Rules.{Rule, rule, firstBroken, inside}
 use Rattle.layer.specs.declared.shape.Layer.{Layer}
 use Rattle.layer.specs.declared.shape.Plan.{Plan}
-use Rattle.layer.specs.Shape.{isConv, tconvSize, fullHeight, fullWidth, transformLength, tileTotal}
+use Rattle.layer.specs.Shape.{isConv, mapCount, kernelCount, outputCount, tconvSize, fullHeight, fullWidth, transformLength, tileTotal}
 use Rattle.layer.specs.Load.{loadsFit, withinPeak}
 
 -- 8: in CONV, H + 2P is not below K; in TCONV, E is not below 1
@@ -42,9 +42,9 @@ outputRules l =
 
 abbrev pub callRules : Layer → (map kernel : List ℤ) → (output scratch : ℕ) → List Rule
 callRules l map kernel output scratch =
-    rule 10 (eqb (length map) (l .inputs * l .height * l .width))
-    ∷ rule 11 (eqb (length kernel) (l .outputs * l .inputs * (l .side * l .side)))
-    ∷ rule 12 (eqb output (l .outputs * l .rows * l .columns))
+    rule 10 (eqb (length map) (mapCount l))
+    ∷ rule 11 (eqb (length kernel) (kernelCount l))
+    ∷ rule 12 (eqb output (outputCount l))
     ∷ rule 13 (leb (3 * (transformLength l * transformLength l)) scratch)
     ∷ rule 14 (inside 1 32767 (l .peak))
     ∷ rule 15 (withinPeak (l .peak) map)

@@ -9,6 +9,7 @@ pub mod Checks
 pub mod ShapeLaws
 pub mod ChecksLaws
 pub mod TileSizes
+pub mod CountLaws
 pub mod TileLaws
 pub mod WindowLaws
 pub mod TripleSums

@@ -9,6 +9,20 @@ use Rattle.layer.specs.declared.shape.Layer.{Layer}
 abbrev pub isConv : Layer → Bool
 isConv l = eqb (l .kind) 0
 
+-- ---- counts
+
+-- map values, C·H·W
+abbrev pub mapCount : Layer → ℕ
+mapCount l = l .inputs * l .height * l .width
+
+-- weights, M·C·K²
+abbrev pub kernelCount : Layer → ℕ
+kernelCount l = l .outputs * l .inputs * (l .side * l .side)
+
+-- outputs that are kept, M·h·w
+abbrev pub outputCount : Layer → ℕ
+outputCount l = l .outputs * l .rows * l .columns
+
 -- ---- the full output
 
 -- CONV: (H + 2P − K) / S, rounded down, plus 1

@@ -1,11 +1,35 @@
-// The sizes of a layer's full output and of its tiles. What they ask is what the rules 1 to 9 give.
+// The counts of a layer's values, the sizes of its full output and of its tiles. What they ask is what the rules 1 to 9 give.
 use crate::shape::Layer;
 use fermat::field;
 ghost use mathlib.Core.Path.{_≡_};
 ghost use Prim.Native.Nat.{_+_, _*_, _^_, _≤_, _<_};
-ghost use Rattle.layer.specs.Shape.{fullSize, transformLength, tileSide, gridStep, span, tilesAcross, tileTotal};
+ghost use Rattle.layer.specs.Shape.{mapCount, kernelCount, outputCount, fullSize, transformLength, tileSide, gridStep, span, tilesAcross, tileTotal};
 ghost use Rattle.layer.specs.ChecksLaws.{InRange, Outputs, Planned};
 ghost use Rattle.layer.specs.TileSizes.{Wanted};
+
+// Map values: C·H·W.
+pub fn map_count(layer: Layer) -> usize
+    requires { ⌜ InRange layer ⌝ }
+    ensures { λ r. ⌜ r ≡ mapCount layer ⌝ }
+{
+    layer.inputs * layer.height * layer.width
+}
+
+// Weights: M·C·K².
+pub fn kernel_count(layer: Layer) -> usize
+    requires { ⌜ InRange layer ⌝ }
+    ensures { λ r. ⌜ r ≡ kernelCount layer ⌝ }
+{
+    layer.outputs * layer.inputs * (layer.side * layer.side)
+}
+
+// Outputs that are kept: M·h·w.
+pub fn output_count(layer: Layer) -> usize
+    requires { ⌜ Planned layer ⌝ }
+    ensures { λ r. ⌜ r ≡ outputCount layer ⌝ }
+{
+    layer.outputs * layer.rows * layer.columns
+}
 
 // E of a map's height, F of its width.
 pub fn full_size(layer: Layer, size: usize) -> usize

@@ -18,16 +18,7 @@ module _ (l : Layer) (r : InRange l) where
   pub modulus-high : modulus (l .field) ≤ 4294967297
   modulus-high = omega (arith, pow-mono {i = 2 ^ l .field} {j = 32} (pow-mono {i = l .field} {j = 5} (r .field-high)))
 
-  -- K² weights, all of a kernel's planes, and the end of one plane
-  pub weights-high : l .side * l .side ≤ 121
-  weights-high = mul-le-mul {n₂ = 11} {m₂ = 11} (r .side-high) (r .side-high)
-
-  pub planes-high : l .outputs * l .inputs ≤ 4096
-  planes-high = mul-le-mul {n₂ = 64} {m₂ = 64} (r .outputs-high) (r .inputs-high)
-
-  pub kernel-high : l .outputs * l .inputs * (l .side * l .side) ≤ 495616
-  kernel-high = mul-le-mul {n₂ = 4096} {m₂ = 121} planes-high weights-high
-
+  -- the end of a plane of the kernel
   pub plane-end : (plane : ℕ) → plane < l .outputs * l .inputs
       → plane * (l .side * l .side) + l .side * l .side ≤ l .outputs * l .inputs * (l .side * l .side)
   plane-end plane h =
@@ -38,13 +29,7 @@ module _ (l : Layer) (r : InRange l) where
   pub corner-room : l .side * l .side ≤ transformLength l * l .side
   corner-room = mul-le-mul {m₁ = l .side} {m₂ = l .side} (omega (arith, length-low l r, r .side-high)) (omega arith)
 
-  -- all rows and all values of a map, and the place of a value
-  pub map-rows-high : l .inputs * l .height ≤ 32768
-  map-rows-high = mul-le-mul {n₂ = 64} {m₂ = 512} (r .inputs-high) (r .height-high)
-
-  pub map-high : l .inputs * l .height * l .width ≤ 16777216
-  map-high = mul-le-mul {n₂ = 32768} {m₂ = 512} map-rows-high (r .width-high)
-
+  -- the row and the place of a value of a map
   pub map-row : (channel y : ℕ) → channel < l .inputs → y < l .height → channel * l .height + y < l .inputs * l .height
   map-row channel y h k = digits-lt h k
 

@@ -1,17 +1,13 @@
 -- `call_code` makes the checks in the order of `callRules`. `left-k`: after k tests that passed, the rules from the k-th on decide.
--- The layer is planned, so no product of its sizes wraps.
-use mathlib.Core.Path.{refl, sym, _∙_}
+use mathlib.Core.Path.{_≡_, refl, sym, _∙_}
 use mathlib.Core.List.{List}
-use Prim.Native.Nat.{ℕ, _*_, _≤_}
-use native.Mathlib.Nat.{mul-le-mul}
-use native.Mathlib.Omega.{arith}
+use Prim.Native.Nat.{ℕ, _≤_}
 use borrow.Author.Needs.{needs}
 use borrow.Author.Tests.{not-false, eq-eqb, ne-eqb, lt-leb, le-leb}
 use lib.ListN.{drop}
 use Rattle.fermat.specs.Rules.{Rule, firstBroken}
 use Rattle.fermat.specs.RulesLaws.{Decided, broken, kept, stop, pass, all-kept, inside-high}
 use Rattle.layer.specs.Checks.{callRules}
-use Rattle.layer.specs.TileSizes.{rows-wanted, columns-wanted}
 use Rattle.engine.proofs.checks.call_code.Statement.{statement}
 use Rattle.engine.proofs.checks.call_code.Tie as tie
 
@@ -23,13 +19,13 @@ Left k s = Decided (firstBroken (rules s)) (drop k (rules s))
 
 -- the call, after k tests that passed
 abbrev call-1 : tie.Else1 → tie.Start
-call-1 c = c .before .before .before
+call-1 c = c .before .before
 
 abbrev call-2 : tie.Else2 → tie.Start
-call-2 c = call-1 (c .before .before .before)
+call-2 c = call-1 (c .before .before)
 
 abbrev call-3 : tie.Else3 → tie.Start
-call-3 c = call-2 (c .before .before .before)
+call-3 c = call-2 (c .before .before)
 
 abbrev call-4 : tie.Else4 → tie.Start
 call-4 c = call-3 (c .before .before)
@@ -44,13 +40,13 @@ left-0 : (s : tie.Start) → Left 0 s
 left-0 s = record { is = refl }
 
 left-1 : (c : tie.Else1) → Left 1 (call-1 c)
-left-1 c = pass (left-0 (call-1 c)) (eq-eqb _ _ (c .if1 .left))
+left-1 c = pass (left-0 (call-1 c)) (eq-eqb _ _ (rw (c .before .map-count .ensures) at (c .if1 .left)))
 
 left-2 : (c : tie.Else2) → Left 2 (call-2 c)
-left-2 c = pass (left-1 (c .before .before .before)) (eq-eqb _ _ (c .if2 .left))
+left-2 c = pass (left-1 (c .before .before)) (eq-eqb _ _ (rw (c .before .kernel-count .ensures) at (c .if2 .left)))
 
 left-3 : (c : tie.Else3) → Left 3 (call-3 c)
-left-3 c = pass (left-2 (c .before .before .before)) (eq-eqb _ _ (c .if3 .left))
+left-3 c = pass (left-2 (c .before .before)) (eq-eqb _ _ (rw (c .before .output-count .ensures) at (c .if3 .left)))
 
 left-4 : (c : tie.Else4) → Left 4 (call-4 c)
 left-4 c = pass (left-3 (c .before .before)) (le-leb _ _ (rw (c .before .scratch-words .ensures) at (c .if4 .left)))
@@ -64,55 +60,23 @@ left-6 c = kept (left-5 (c .before .before)) (c .before .within-peak .ensures) (
 peak-high : (c : tie.Else5) → call-5 c .args .layer .peak ≤ 32767
 peak-high c = inside-high 1 32767 _ (sym (c .before .is-inside .ensures) ∙ not-false _ (c .if5 .left))
 
--- bounds of the products of two sizes
-module _ (s : tie.Start) where
-  map-rows : s .args .layer .inputs * s .args .layer .height ≤ 64 * 512
-  map-rows = mul-le-mul (s .pre .shape .inputs-high) (s .pre .shape .height-high)
-
-  planes : s .args .layer .outputs * s .args .layer .inputs ≤ 64 * 64
-  planes = mul-le-mul (s .pre .shape .outputs-high) (s .pre .shape .inputs-high)
-
-  area : s .args .layer .side * s .args .layer .side ≤ 11 * 11
-  area = mul-le-mul (s .pre .shape .side-high) (s .pre .shape .side-high)
-
-  output-rows : s .args .layer .outputs * s .args .layer .rows ≤ 64 * 2055
-  output-rows = mul-le-mul (s .pre .shape .outputs-high) (rows-wanted _ (s .pre) .count-high)
-
-mul-if1 : tie.Need-mul-if1
-mul-if1 c = omega (arith, map-rows (c .before))
-
-mul-if1-2 : tie.Need-mul-if1-2
-mul-if1-2 c =
-    let s = c .before .before in
-    omega (arith, mul-le-mul (map-rows s) (s .pre .shape .width-high))
+map-count-requires : tie.Need-map-count-requires
+map-count-requires c κs = search needs
 
 returns : tie.Need-returns
-returns c = stop (left-0 (c .before .before .before)) (ne-eqb _ _ (c .if1 .taken))
+returns c = stop (left-0 (c .before .before)) (ne-eqb _ _ (rw (c .before .map-count .ensures) at (c .if1 .taken)))
 
-mul-if2 : tie.Need-mul-if2
-mul-if2 c = omega (arith, planes (call-1 (c .before)))
-
-mul-if2-2 : tie.Need-mul-if2-2
-mul-if2-2 c = omega (arith, area (call-1 (c .before .before)))
-
-mul-if2-3 : tie.Need-mul-if2-3
-mul-if2-3 c =
-    let s = call-1 (c .before .before) in
-    omega (arith, mul-le-mul (planes s) (area s))
+kernel-count-requires : tie.Need-kernel-count-requires
+kernel-count-requires c κs = search needs
 
 returns-2 : tie.Need-returns-2
-returns-2 c = stop (left-1 (c .before .before .before)) (ne-eqb _ _ (c .if2 .taken))
+returns-2 c = stop (left-1 (c .before .before)) (ne-eqb _ _ (rw (c .before .kernel-count .ensures) at (c .if2 .taken)))
 
-mul-if3 : tie.Need-mul-if3
-mul-if3 c = omega (arith, output-rows (call-2 (c .before)))
-
-mul-if3-2 : tie.Need-mul-if3-2
-mul-if3-2 c =
-    let s = call-2 (c .before .before) in
-    omega (arith, mul-le-mul (output-rows s) (columns-wanted _ (s .pre) .count-high))
+output-count-requires : tie.Need-output-count-requires
+output-count-requires c κs = search needs
 
 returns-3 : tie.Need-returns-3
-returns-3 c = stop (left-2 (c .before .before .before)) (ne-eqb _ _ (c .if3 .taken))
+returns-3 c = stop (left-2 (c .before .before)) (ne-eqb _ _ (rw (c .before .output-count .ensures) at (c .if3 .taken)))
 
 scratch-words-requires : tie.Need-scratch-words-requires
 scratch-words-requires c κs = search needs
@@ -135,13 +99,13 @@ returns-6 c = broken (left-5 (c .before .before)) (c .before .within-peak .ensur
 loads-fit-requires : tie.Need-loads-fit-requires
 loads-fit-requires c κs =
     let s = call-6 c in
-    let passed : tie.Else2 = c .before .before .before .before .before .before .before .before .before in
+    let passed : tie.Else2 = c .before .before .before .before .before .before .before .before in
     record {
       inputs-most = s .pre .shape .inputs-high;
       outputs-most = s .pre .shape .outputs-high;
       side-most = s .pre .shape .side-high;
       peak-most = peak-high (c .before .before);
-      weights = passed .if2 .left;
+      weights = rw (passed .before .kernel-count .ensures) at (passed .if2 .left);
     }
 
 returns-7 : tie.Need-returns-7
@@ -154,15 +118,11 @@ pub call-code-spec : {M : Type 1} → statement M
 call-code-spec =
     tie.close
     (tie.spec
-    mul-if1
-    mul-if1-2
+    map-count-requires
     returns
-    mul-if2
-    mul-if2-2
-    mul-if2-3
+    kernel-count-requires
     returns-2
-    mul-if3
-    mul-if3-2
+    output-count-requires
     returns-3
     scratch-words-requires
     returns-4

@@ -9,7 +9,8 @@ use Rattle.algebra.specs.Places.{Run}
 use Rattle.fermat.specs.Field.{modulus}
 use Rattle.tile.specs.Loaded.{Loaded}
 use Rattle.tile.proofs.Loads.{loaded-as}
-use Rattle.tile.proofs.Sizes.{modulus-low, modulus-high, weights-high, kernel-high, plane-end, corner-room}
+use Rattle.layer.specs.CountLaws.{weights-high, kernel-high}
+use Rattle.tile.proofs.Sizes.{modulus-low, modulus-high, plane-end, corner-room}
 use Rattle.tile.proofs.Corner.{weightOf, conv-weight, tconv-weight, weighted}
 use Rattle.tile.proofs.kernel.load_kernel.Statement.{statement}
 use Rattle.tile.proofs.kernel.load_kernel.Tie as tie

@@ -6,9 +6,10 @@ use borrow.Author.Needs.{needs}
 use lib.Dec.{T}
 use lib.IntN.{ℤ}
 use Rattle.layer.specs.WindowLaws.{spread, spread-is, when-yes, when-no}
+use Rattle.layer.specs.CountLaws.{map-rows-high, map-high}
 use Rattle.tile.specs.Shows.{shownAt, lineAt}
 use Rattle.tile.specs.Window.{spacing, edge}
-use Rattle.tile.proofs.Sizes.{modulus-low, modulus-high, map-rows-high, map-high, map-row, map-place}
+use Rattle.tile.proofs.Sizes.{modulus-low, modulus-high, map-row, map-place}
 use Rattle.tile.proofs.Loads.{loaded-clear, loaded-as}
 use Rattle.tile.proofs.window.load_line.Statement.{statement}
 use Rattle.tile.proofs.window.load_line.Tie as tie

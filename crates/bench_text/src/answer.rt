@@ -1,0 +1,157 @@
+// What the bench program prints for an input.
+ghost use mathlib.Core.Path.{_≡_};
+ghost use mathlib.Core.Bool.{true, false};
+ghost use Prim.Native.Nat.{_≤_};
+ghost use lib.ListN.{length, take, drop};
+ghost use Rattle.layer.specs.Shape.{mapCount, kernelCount, outputCount};
+ghost use Rattle.layer.specs.ChecksLaws.{Planned};
+ghost use Rattle.bench_text.specs.Words.{wordsOf};
+ghost use Rattle.bench_text.specs.Printed.{small, ran, bodyPrinted, printed};
+ghost use Rattle.bench_text.specs.Reading.{BodyRead};
+ghost use Rattle.bench_text.specs.Writing.{Appended};
+use crate::lines;
+use crate::words;
+use fermat::number::lesser;
+use layer::numbers::layer_of;
+use layer::planner::plan_code;
+use layer::shape::Layer;
+use layer::sizes;
+
+// Map and kernel, and no word after them.
+fn read_body(text: &[u8], at: usize, map: &mut [i16], kernel: &mut [i16]) -> bool
+    requires { ⌜ at ≤ length (now text) ⌝ }
+    ensures { λ r. ⌜ BodyRead (wordsOf false (drop at (now (text .entry)))) (length (now (map .entry))) (length (now (kernel .entry))) (now (map .exit)) (now (kernel .exit)) r ⌝ }
+{
+    let after_map = words::read_values(text, at, map);
+    if !after_map.valid {
+        return false;
+    }
+    let after_kernel = words::read_values(text, after_map.at, kernel);
+    if !after_kernel.valid {
+        return false;
+    }
+    words::no_more(text, after_kernel.at)
+}
+
+// Whether the field is 4 and the counts of map values, weights and outputs fit the buffers.
+fn is_small(layer: Layer) -> bool
+    requires { ⌜ Planned layer ⌝ }
+    ensures { λ r. ⌜ r ≡ small layer ⌝ }
+{
+    if layer.field != 4 {
+        return false;
+    }
+    if sizes::map_count(layer) > 1024 {
+        return false;
+    }
+    if sizes::kernel_count(layer) > 512 {
+        return false;
+    }
+    sizes::output_count(layer) <= 1024
+}
+
+// A run, and its lines.
+fn put_run(
+    lines: &mut [u8],
+    layer: Layer,
+    map: &[i16],
+    kernel: &[i16],
+    output: &mut [i32],
+    scratch: &mut [u64],
+) -> usize
+    requires { ⌜ Planned layer × (length (now output) ≡ outputCount layer) × (outputCount layer ≤ 1024) ⌝ }
+    requires { ⌜ (length (now scratch) ≡ 3072) × (length (now lines) ≡ 16384) ⌝ }
+    ensures { λ r. ⌜ Appended 0 (ran layer (now (map .entry)) (now (kernel .entry))) (now (lines .entry)) (now (lines .exit)) r ⌝ }
+{
+    let progress = engine::run(layer, map, kernel, output, scratch);
+    if progress.code != 0 {
+        return lines::put_numbered(lines, 0, b"refused", progress.code);
+    }
+    let at = lines::put_numbered(lines, 0, b"tiles", progress.count);
+    lines::put_rows(lines, at, output, layer.columns)
+}
+
+// Map and kernel are read, and the layer is run on them. The buffers are as long as the layer's counts.
+fn put_read(
+    lines: &mut [u8],
+    layer: Layer,
+    text: &[u8],
+    at: usize,
+    map: &mut [i16],
+    kernel: &mut [i16],
+    output: &mut [i32],
+    scratch: &mut [u64],
+) -> usize
+    requires { ⌜ Planned layer × (small layer ≡ true) × (at ≤ length (now text)) ⌝ }
+    requires { ⌜ (length (now map) ≡ mapCount layer) × (length (now kernel) ≡ kernelCount layer) × (length (now output) ≡ outputCount layer) ⌝ }
+    requires { ⌜ (length (now scratch) ≡ 3072) × (length (now lines) ≡ 16384) ⌝ }
+    ensures { λ r. ⌜ Appended 0 (bodyPrinted layer false (wordsOf false (drop at (now (text .entry))))) (now (lines .entry)) (now (lines .exit)) r ⌝ }
+{
+    if !read_body(text, at, map, kernel) {
+        return lines::put_unreadable(lines, 0);
+    }
+    put_run(lines, layer, map, kernel, output, scratch)
+}
+
+// The lines after a header that the checks 1 to 9 accept.
+fn put_body(
+    lines: &mut [u8],
+    layer: Layer,
+    text: &[u8],
+    at: usize,
+    map: &mut [i16],
+    kernel: &mut [i16],
+    output: &mut [i32],
+    scratch: &mut [u64],
+) -> usize
+    requires { ⌜ Planned layer × (at ≤ length (now text)) × (length (now lines) ≡ 16384) × (length (now scratch) ≡ 3072) ⌝ }
+    requires { ⌜ (length (now map) ≡ 1024) × (length (now kernel) ≡ 512) × (length (now output) ≡ 1024) ⌝ }
+    ensures { λ r. ⌜ Appended 0 (bodyPrinted layer false (wordsOf false (drop at (now (text .entry))))) (now (lines .entry)) (now (lines .exit)) r ⌝ }
+{
+    if !is_small(layer) {
+        return lines::put_unreadable(lines, 0);
+    }
+    let values = sizes::map_count(layer);
+    let weights = sizes::kernel_count(layer);
+    let outputs = sizes::output_count(layer);
+    put_read(
+        lines,
+        layer,
+        text,
+        at,
+        &mut map[0..values],
+        &mut kernel[0..weights],
+        &mut output[0..outputs],
+        scratch,
+    )
+}
+
+// The first bytes of `lines` become what the bench program prints; their count is the answer. The other buffers are worked in.
+pub fn answer(
+    lines: &mut [u8; 16384],
+    input: &[u8],
+    map: &mut [i16; 1024],
+    kernel: &mut [i16; 512],
+    output: &mut [i32; 1024],
+    scratch: &mut [u64; 3072],
+) -> usize
+    ensures { λ r. ⌜ (r ≤ length (now (lines .exit))) × (take r (now (lines .exit)) ≡ printed (now (input .entry))) ⌝ }
+{
+    let long = input.len() > 16384;
+    let end = lesser(input.len(), 16384);
+    let text = &input[0..end];
+    let mut numbers = [0; 14];
+    let header = words::read_header(text, long, &mut numbers);
+    if !header.valid {
+        return lines::put_unreadable(lines, 0);
+    }
+    let layer = layer_of(&numbers);
+    let code = plan_code(layer);
+    if code != 0 {
+        return lines::put_numbered(lines, 0, b"refused", code);
+    }
+    if long {
+        return lines::put_unreadable(lines, 0);
+    }
+    put_body(lines, layer, text, header.at, map, kernel, output, scratch)
+}

@@ -1,0 +1,55 @@
+//! What a run or a job call is given, and the buffers that it writes, with guard values around them.
+
+use crate::layer::Layer;
+
+/// The job's layer and index, the budget, what is lent to read, and how much of each buffer is lent to write.
+#[derive(Clone, Debug, Default, PartialEq, Eq)]
+pub struct Call {
+    pub layer: Layer,
+    pub next: usize,
+    pub budget: usize,
+    pub map: Vec<i16>,
+    pub kernel: Vec<i16>,
+    pub output_length: usize,
+    pub scratch_length: usize,
+}
+
+/// Guard values on each side of a buffer.
+const GUARDS: usize = 16;
+
+/// Words with guard values before and after, which the engine is not lent.
+#[derive(Clone)]
+pub struct Buffer<T> {
+    all: Vec<T>,
+}
+
+impl<T: Copy + PartialEq> Buffer<T> {
+    /// A buffer of so many words; every word and guard value is drawn.
+    pub fn of(length: usize, draw: impl FnMut() -> T) -> Buffer<T> {
+        Buffer { all: std::iter::repeat_with(draw).take(length + 2 * GUARDS).collect() }
+    }
+
+    /// The words without their guard values.
+    pub fn words(&self) -> &[T] {
+        &self.all[GUARDS..self.all.len() - GUARDS]
+    }
+
+    /// The first words, to be written; a few more than there are reach into the guard values.
+    pub fn lend(&mut self, length: usize) -> &mut [T] {
+        &mut self.all[GUARDS..][..length]
+    }
+
+    /// The first place, counted from the first word, at which two buffers differ, guard values among them, and both
+    /// words.
+    pub fn difference(&self, other: &Buffer<T>) -> Option<(isize, T, T)> {
+        assert_eq!(self.all.len(), other.all.len());
+        let place = (0..self.all.len()).find(|&place| self.all[place] != other.all[place])?;
+        Some((place as isize - GUARDS as isize, self.all[place], other.all[place]))
+    }
+}
+
+#[derive(Clone)]
+pub struct Buffers {
+    pub output: Buffer<i32>,
+    pub scratch: Buffer<u64>,
+}

@@ -1,0 +1,96 @@
+//! Calls of the engine of which everything that they return and leave is held to the request: the number, the figures,
+//! the output, the scratch, the guard values, and what was lent to read.
+
+use crate::call::{Buffer, Buffers, Call};
+use crate::engine::{self, Answer};
+use crate::layer::Layer;
+use crate::rules;
+use std::fmt::Debug;
+use std::ops::Range;
+
+/// Plans, and holds the number and the figures to the rules and formulas. Returns the number.
+pub fn plan(layer: &Layer) -> usize {
+    let number = rules::plan_number(layer);
+    let figures = match number {
+        0 => [layer.full_rows() as usize, layer.full_columns() as usize, layer.tile_total(), layer.scratch_words()],
+        _ => [0; 4],
+    };
+    assert_eq!(engine::plan(&layer.numbers()), (number, figures), "plan of {layer:?}");
+    number
+}
+
+/// Makes a job call. Tiles that it finishes are held to the sums where they are given; every other word, always.
+pub fn job(call: &Call, buffers: &mut Buffers, sums: Option<&[i64]>) -> Answer {
+    held(call, buffers, sums, |output, scratch| {
+        engine::job(&call.layer.numbers(), (call.next, call.budget), (&call.map, &call.kernel), output, scratch)
+    })
+}
+
+/// Makes a run: the job from tile 0 with a budget that reaches the total. The call's own index and budget are not used.
+pub fn run(call: &Call, buffers: &mut Buffers, sums: Option<&[i64]>) -> Answer {
+    let whole = Call { next: 0, budget: usize::MAX, ..call.clone() };
+    held(&whole, buffers, sums, |output, scratch| {
+        engine::run(&whole.layer.numbers(), &whole.map, &whole.kernel, output, scratch)
+    })
+}
+
+fn held(
+    call: &Call,
+    buffers: &mut Buffers,
+    sums: Option<&[i64]>,
+    made: impl FnOnce(&mut [i32], &mut [u64]) -> Answer,
+) -> Answer {
+    let (given, mut expected) = (call.clone(), buffers.clone());
+    let answer = made(buffers.output.lend(call.output_length), buffers.scratch.lend(call.scratch_length));
+    assert_eq!(answer, expected_answer(call), "answer to {}", name(call));
+    if answer.number == 0 {
+        expected.scratch.lend(call.layer.scratch_words()).fill(0);
+        finish(&call.layer, call.next..answer.next, sums, &buffers.output, &mut expected.output);
+    }
+    same("output", &buffers.output, &expected.output, call);
+    same("scratch", &buffers.scratch, &expected.scratch, call);
+    assert!(*call == given, "map or kernel changed by {}", name(call));
+    answer
+}
+
+/// A refused call finishes nothing, hands its index back and is not done.
+fn expected_answer(call: &Call) -> Answer {
+    let number = rules::job_number(call);
+    if number != 0 {
+        return Answer { number, count: 0, next: call.next, done: 0 };
+    }
+    let total = call.layer.tile_total();
+    let count = call.budget.min(total - call.next);
+    let next = call.next + count;
+    Answer { number, count, next, done: usize::from(next == total) }
+}
+
+/// Writes what the outputs of some tiles must be: their sums, or what was found where no sums are given.
+fn finish(layer: &Layer, tiles: Range<usize>, sums: Option<&[i64]>, found: &Buffer<i32>, expected: &mut Buffer<i32>) {
+    let words = expected.lend(layer.output_length() as usize);
+    let mut place = 0;
+    for channel in 0..layer.outputs {
+        for row in 0..layer.rows {
+            for column in 0..layer.columns {
+                if tiles.contains(&layer.tile_of(channel, row, column)) {
+                    words[place] = match sums {
+                        Some(sums) => i32::try_from(sums[place]).expect("an accepted sum fits 32 bits"),
+                        None => found.words()[place],
+                    };
+                }
+                place += 1;
+            }
+        }
+    }
+}
+
+fn same<T: Copy + PartialEq + Debug>(what: &str, found: &Buffer<T>, expected: &Buffer<T>, call: &Call) {
+    if let Some((place, found, expected)) = found.difference(expected) {
+        panic!("{what} word {place} is {found:?} instead of {expected:?} after {}", name(call));
+    }
+}
+
+/// A call without its map and kernel, for a message.
+fn name(call: &Call) -> String {
+    format!("index {}, budget {}, {:?}", call.next, call.budget, call.layer)
+}

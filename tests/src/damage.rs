@@ -1,0 +1,171 @@
+//! Ways to break a rule of a call that every rule accepts.
+
+use crate::call::Call;
+use crate::draw::{any_layer, set_channel, top_up};
+use crate::layer::{Layer, CONV};
+use crate::random::Random;
+use crate::rules::load_limit;
+
+/// The rule that is broken, and how. Rules below it stay as they are.
+pub struct Damage {
+    pub rule: usize,
+    pub name: String,
+    apply: Box<dyn Fn(&mut Call)>,
+}
+
+impl Damage {
+    /// Damages a call that is sound, or damaged by higher rules alone.
+    pub fn apply(&self, call: &mut Call) {
+        (self.apply)(call);
+    }
+}
+
+/// The rule, the place among the fourteen numbers, and the range.
+const RANGES: [(usize, usize, usize, usize); 9] = [
+    (1, 0, 0, 1),
+    (2, 1, 4, 5),
+    (3, 2, 1, 64),
+    (3, 3, 1, 64),
+    (4, 4, 1, 512),
+    (4, 5, 1, 512),
+    (5, 6, 1, 11),
+    (6, 7, 1, 4),
+    (14, 9, 1, 32_767),
+];
+
+/// Values outside a range: next to both ends, far off, and those that are inside it when cut to 16 or 32 bits.
+fn outside(least: usize, most: usize) -> Vec<usize> {
+    let mut values = vec![most + 1, most + (1 << 16), most + (1 << 32), 1 << 63, usize::MAX];
+    values.extend(least.checked_sub(1));
+    values
+}
+
+fn ranges() -> Vec<Damage> {
+    let mut damages = Vec::new();
+    for (rule, place, least, most) in RANGES {
+        for value in outside(least, most) {
+            let apply = move |call: &mut Call| {
+                let mut numbers = call.layer.numbers();
+                numbers[place] = value;
+                call.layer = Layer::of(numbers);
+            };
+            damages.push(Damage { rule, name: format!("number {place} is {value}"), apply: Box::new(apply) });
+        }
+    }
+    damages
+}
+
+/// A rule, a name and a way to break the rule.
+type Entry = (usize, &'static str, fn(&mut Call));
+
+const SIZES: [Entry; 21] = [
+    (7, "padding is the side", |call| call.layer.padding = call.layer.side),
+    (7, "padding is 65,536", |call| call.layer.padding = 1 << 16),
+    (7, "padding is 2 to the power 32", |call| call.layer.padding = 1 << 32),
+    (7, "padding is 2 to the power 63", |call| call.layer.padding = 1 << 63),
+    (7, "padding is the greatest number", |call| call.layer.padding = usize::MAX),
+    (8, "one row too few", |call| {
+        let (height, window) = one_too_few(call.layer);
+        call.layer = Layer { height, ..window };
+    }),
+    (8, "one column too few", |call| {
+        let (width, window) = one_too_few(call.layer);
+        call.layer = Layer { width, ..window };
+    }),
+    (8, "many rows too few", |call| {
+        let padding = if call.layer.kind == CONV { 0 } else { 10 };
+        call.layer = Layer { height: 1, side: 11, padding, ..call.layer };
+    }),
+    (9, "no row kept", |call| call.layer.rows = 0),
+    (9, "no column kept", |call| call.layer.columns = 0),
+    (9, "one row too many", |call| call.layer.rows = call.layer.full_rows() as usize - call.layer.top + 1),
+    (9, "one column too many", |call| call.layer.columns = call.layer.full_columns() as usize - call.layer.left + 1),
+    (9, "first row one too far", |call| call.layer.top = call.layer.full_rows() as usize - call.layer.rows + 1),
+    (9, "first column one too far", |call| {
+        call.layer.left = call.layer.full_columns() as usize - call.layer.columns + 1
+    }),
+    (9, "top and rows wrap to 0", |call| call.layer.top = usize::MAX - call.layer.rows + 1),
+    (9, "left and columns wrap to 0", |call| call.layer.left = usize::MAX - call.layer.columns + 1),
+    (9, "top and rows wrap to 1", |call| (call.layer.top, call.layer.rows) = (2, usize::MAX)),
+    (9, "top is the greatest number", |call| call.layer.top = usize::MAX),
+    (9, "left is the greatest number", |call| call.layer.left = usize::MAX),
+    (9, "rows is the greatest number", |call| call.layer.rows = usize::MAX),
+    (9, "columns is the greatest number", |call| call.layer.columns = usize::MAX),
+];
+
+/// A map length that is one short of an output, and the layer with the window that makes it so.
+/// CONV: 6 + 2·2 is one below 11. TCONV: (1 − 1)S + 2 − 2·1 is 0.
+fn one_too_few(layer: Layer) -> (usize, Layer) {
+    if layer.kind == CONV {
+        (6, Layer { side: 11, padding: 2, ..layer })
+    } else {
+        (1, Layer { side: 2, padding: 1, ..layer })
+    }
+}
+
+const LENT: [Entry; 20] = [
+    (10, "map one short", |call| call.map.truncate(call.map.len() - 1)),
+    (10, "map one long", |call| call.map.push(0)),
+    (10, "no map", |call| call.map = Vec::new()),
+    (11, "kernel one short", |call| call.kernel.truncate(call.kernel.len() - 1)),
+    (11, "kernel one long", |call| call.kernel.push(0)),
+    (11, "no kernel", |call| call.kernel = Vec::new()),
+    (12, "output one short", |call| call.output_length -= 1),
+    (12, "output one long", |call| call.output_length += 1),
+    (12, "no output", |call| call.output_length = 0),
+    (13, "scratch one short", |call| call.scratch_length = call.layer.scratch_words() - 1),
+    (13, "no scratch", |call| call.scratch_length = 0),
+    (15, "first value one beyond the peak", |call| call.map[0] = beyond(call.layer.peak)),
+    (15, "last value one beyond the peak", |call| *call.map.last_mut().unwrap() = -(call.layer.peak as i16) - 1),
+    (15, "some value is -32,768", |call| {
+        let middle = call.map.len() / 2;
+        call.map[middle] = i16::MIN;
+    }),
+    (16, "load of the first channel above the limit", |call| overload(call, 0)),
+    (16, "load of the last channel above the limit", |call| overload(call, call.layer.outputs - 1)),
+    (17, "index one above the total", |call| call.next = call.layer.tile_total() + 1),
+    (17, "index is 2 to the power 32", |call| call.next = 1 << 32),
+    (17, "index is 2 to the power 63", |call| call.next = 1 << 63),
+    (17, "index is the greatest number", |call| call.next = usize::MAX),
+];
+
+/// One above the peak; one below its negative where 16 bits hold no more.
+fn beyond(peak: usize) -> i16 {
+    i16::try_from(peak + 1).unwrap_or(i16::MIN)
+}
+
+/// Gives a channel the least load above the limit. The peak is raised where 16-bit weights would not reach that.
+fn overload(call: &mut Call, channel: usize) {
+    let count = call.layer.inputs * call.layer.side * call.layer.side;
+    let limit = load_limit(call.layer.field) as usize;
+    if count * 32_768 * call.layer.peak <= limit {
+        call.layer.peak = 32_767;
+    }
+    let mut weights = vec![0; count];
+    top_up(&mut weights, limit / call.layer.peak + 1);
+    set_channel(&call.layer, &mut call.kernel, channel, &weights);
+}
+
+/// Whether every rule can be broken: in F_5 no load of two weights is above the limit.
+pub fn breakable(layer: &Layer) -> bool {
+    layer.field == 4 || layer.inputs * layer.side * layer.side >= 3
+}
+
+/// A drawn layer on which every rule can be broken.
+pub fn breakable_layer(random: &mut Random, kind: usize, field: usize, most_channels: usize, longest: usize) -> Layer {
+    loop {
+        let layer = any_layer(random, kind, field, most_channels, longest);
+        if breakable(&layer) {
+            return layer;
+        }
+    }
+}
+
+/// Every damage, the rules in order within each group.
+pub fn damages() -> Vec<Damage> {
+    let mut damages = ranges();
+    for (rule, name, apply) in SIZES.into_iter().chain(LENT) {
+        damages.push(Damage { rule, name: name.to_string(), apply: Box::new(apply) });
+    }
+    damages
+}

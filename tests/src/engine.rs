@@ -1,0 +1,115 @@
+//! The five functions of include/wemsteky.h, behind slices.
+
+mod c {
+    extern "C" {
+        pub fn wemsteky_plan(layer: *const usize, figures: *mut usize) -> usize;
+        pub fn wemsteky_run(
+            layer: *const usize,
+            map: *const i16,
+            map_len: usize,
+            kernel: *const i16,
+            kernel_len: usize,
+            output: *mut i32,
+            output_len: usize,
+            scratch: *mut u64,
+            scratch_len: usize,
+            figures: *mut usize,
+        ) -> usize;
+        pub fn wemsteky_job(
+            layer: *const usize,
+            next: usize,
+            budget: usize,
+            map: *const i16,
+            map_len: usize,
+            kernel: *const i16,
+            kernel_len: usize,
+            output: *mut i32,
+            output_len: usize,
+            scratch: *mut u64,
+            scratch_len: usize,
+            figures: *mut usize,
+        ) -> usize;
+        pub fn wemsteky_transform(field: usize, words: *mut u64, words_len: usize) -> usize;
+        pub fn wemsteky_inverse(field: usize, words: *mut u64, words_len: usize) -> usize;
+    }
+}
+
+/// What stands in a figure before the call: no call returns it.
+const UNWRITTEN: usize = usize::MAX - 12_345;
+
+/// What a run or a job call returns.
+#[derive(Clone, Copy, Debug, PartialEq, Eq)]
+pub struct Answer {
+    pub number: usize,
+    pub count: usize,
+    pub next: usize,
+    pub done: usize,
+}
+
+/// The number and the four figures: E, F, the tile total and 3N².
+pub fn plan(layer: &[usize; 14]) -> (usize, [usize; 4]) {
+    let mut figures = [UNWRITTEN; 4];
+    // Safety: both pointers are of arrays of the lengths that the header names.
+    let number = unsafe { c::wemsteky_plan(layer.as_ptr(), figures.as_mut_ptr()) };
+    (number, figures)
+}
+
+pub fn run(layer: &[usize; 14], map: &[i16], kernel: &[i16], output: &mut [i32], scratch: &mut [u64]) -> Answer {
+    let mut figures = [UNWRITTEN; 3];
+    // Safety: every pointer is of a slice of the length beside it and is not null; borrowed slices do not overlap.
+    let number = unsafe {
+        c::wemsteky_run(
+            layer.as_ptr(),
+            map.as_ptr(),
+            map.len(),
+            kernel.as_ptr(),
+            kernel.len(),
+            output.as_mut_ptr(),
+            output.len(),
+            scratch.as_mut_ptr(),
+            scratch.len(),
+            figures.as_mut_ptr(),
+        )
+    };
+    let [count, next, done] = figures;
+    Answer { number, count, next, done }
+}
+
+pub fn job(
+    layer: &[usize; 14],
+    (next, budget): (usize, usize),
+    (map, kernel): (&[i16], &[i16]),
+    output: &mut [i32],
+    scratch: &mut [u64],
+) -> Answer {
+    let mut figures = [UNWRITTEN; 3];
+    // Safety: as in `run`.
+    let number = unsafe {
+        c::wemsteky_job(
+            layer.as_ptr(),
+            next,
+            budget,
+            map.as_ptr(),
+            map.len(),
+            kernel.as_ptr(),
+            kernel.len(),
+            output.as_mut_ptr(),
+            output.len(),
+            scratch.as_mut_ptr(),
+            scratch.len(),
+            figures.as_mut_ptr(),
+        )
+    };
+    let [count, next, done] = figures;
+    Answer { number, count, next, done }
+}
+
+pub fn transform(field: usize, words: &mut [u64]) -> usize {
+    // Safety: the pointer is of a slice of the length beside it and is not null.
+    unsafe { c::wemsteky_transform(field, words.as_mut_ptr(), words.len()) }
+}
+
+pub fn inverse(field: usize, words: &mut [u64]) -> usize {
+    // Safety: as in `transform`.
+    unsafe { c::wemsteky_inverse(field, words.as_mut_ptr(), words.len()) }
+}

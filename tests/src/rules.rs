@@ -1,0 +1,92 @@
+//! The number that a call returns, from the request's table: the rules in its order, sums taken in whole numbers.
+
+use crate::call::Call;
+use crate::layer::{Layer, CONV};
+use crate::transform::{modulus, points};
+
+/// A number and the test that a call must meet to pass it. A test is made only where those before hold.
+type Rule = (usize, fn(&Call) -> bool);
+
+const RULES: [Rule; 17] = [
+    (1, |call| call.layer.kind == 0 || call.layer.kind == 1),
+    (2, |call| call.layer.field == 4 || call.layer.field == 5),
+    (3, |call| inside(1, 64, call.layer.inputs) && inside(1, 64, call.layer.outputs)),
+    (4, |call| inside(1, 512, call.layer.height) && inside(1, 512, call.layer.width)),
+    (5, |call| inside(1, 11, call.layer.side)),
+    (6, |call| inside(1, 4, call.layer.stride)),
+    (7, |call| call.layer.padding < call.layer.side),
+    (8, |call| has_output(&call.layer)),
+    (9, |call| has_crop(&call.layer)),
+    (10, |call| call.map.len() as u128 == call.layer.map_length()),
+    (11, |call| call.kernel.len() as u128 == call.layer.kernel_length()),
+    (12, |call| call.output_length as u128 == call.layer.output_length()),
+    (13, |call| call.scratch_length >= call.layer.scratch_words()),
+    (14, |call| inside(1, 32_767, call.layer.peak)),
+    (15, |call| call.map.iter().all(|&value| size(value) <= call.layer.peak as u128)),
+    (16, |call| (0..call.layer.outputs).all(|channel| load(call, channel) <= load_limit(call.layer.field))),
+    (17, |call| call.next <= call.layer.tile_total()),
+];
+
+fn inside(least: usize, most: usize, number: usize) -> bool {
+    least <= number && number <= most
+}
+
+fn size(value: i16) -> u128 {
+    u128::from(value.unsigned_abs())
+}
+
+fn has_output(layer: &Layer) -> bool {
+    if layer.kind == CONV {
+        let [height, width, side, padding] =
+            [layer.height, layer.width, layer.side, layer.padding].map(|number| number as u128);
+        height + 2 * padding >= side && width + 2 * padding >= side
+    } else {
+        layer.full_rows() >= 1 && layer.full_columns() >= 1
+    }
+}
+
+fn has_crop(layer: &Layer) -> bool {
+    let kept = |first: usize, count: usize, full: i128| count != 0 && first as i128 + count as i128 <= full;
+    kept(layer.top, layer.rows, layer.full_rows()) && kept(layer.left, layer.columns, layer.full_columns())
+}
+
+/// The peak times the sum of the sizes of all weights that reach an output channel.
+pub fn load(call: &Call, channel: usize) -> u128 {
+    let square = call.layer.side * call.layer.side;
+    let planes = (0..call.layer.inputs).map(|input| &call.kernel[call.layer.plane(channel, input)..][..square]);
+    call.layer.peak as u128 * planes.flatten().map(|&weight| size(weight)).sum::<u128>()
+}
+
+pub fn load_limit(field: usize) -> u128 {
+    match field {
+        4 => 32_768,
+        _ => 2_147_483_647,
+    }
+}
+
+fn first_broken(rules: &[Rule], call: &Call) -> usize {
+    rules.iter().find(|(_, holds)| !holds(call)).map_or(0, |&(number, _)| number)
+}
+
+/// What the planner returns.
+pub fn plan_number(layer: &Layer) -> usize {
+    first_broken(&RULES[..9], &Call { layer: *layer, ..Call::default() })
+}
+
+/// What a job call returns. A run is the same with the index 0.
+pub fn job_number(call: &Call) -> usize {
+    first_broken(&RULES, call)
+}
+
+/// What a transform or its inverse returns.
+pub fn transform_number(field: usize, words: &[u64]) -> usize {
+    if field != 4 && field != 5 {
+        2
+    } else if words.len() != points(field) {
+        18
+    } else if words.iter().any(|&word| word >= modulus(field)) {
+        19
+    } else {
+        0
+    }
+}

@@ -1,0 +1,87 @@
+//! Jobs in drawn budgets. At every stop finished tiles are the direct sums, every other output is as lent, and scratch,
+//! index, count and done mark are what the request says; refused calls between change nothing.
+
+use wemsteky_tests::call::Call;
+use wemsteky_tests::damage::breakable_layer;
+use wemsteky_tests::direct::direct_sums;
+use wemsteky_tests::draw;
+use wemsteky_tests::layer::{CONV, TCONV};
+use wemsteky_tests::list::List;
+use wemsteky_tests::random::{seed, Random};
+
+/// Jobs in each test.
+const TRIALS: usize = 400;
+
+/// A call on a layer of a few tiles at least, on which every rule can be broken.
+fn draw_call(random: &mut Random, kind: usize, field: usize) -> Call {
+    loop {
+        let layer = breakable_layer(random, kind, field, 4, 150);
+        if layer.tile_total() >= 4 || random.once_in(16) {
+            return draw::call(random, layer);
+        }
+    }
+}
+
+fn sums_of(call: &Call) -> Vec<i64> {
+    direct_sums(&call.layer, &call.map, &call.kernel)
+}
+
+/// One map and kernel from tile 0 to the end, then calls of the finished job.
+fn to_the_end(test: &'static str, kind: usize, field: usize) {
+    let (mut accepted, mut refused) = (0, 0);
+    for trial in 0..TRIALS {
+        let mut random = Random::new(test, trial);
+        let call = draw_call(&mut random, kind, field);
+        let sums = sums_of(&call);
+        let mut list = List::new(&mut random, call);
+        list.finish(&mut random, Some(&sums));
+        let output = list.buffers.output.words().iter().map(|&word| i64::from(word));
+        assert!(output.eq(sums.iter().copied()), "whole output of {:?}", list.call.layer);
+        list.refuse(&mut random);
+        assert_eq!(list.advance(&mut random, Some(&sums)).count, 0);
+        accepted += list.accepted;
+        refused += list.refused;
+    }
+    assert!(
+        accepted > 3 * TRIALS && refused > TRIALS,
+        "{accepted} accepted calls, {refused} refused ones, seed {}",
+        seed()
+    );
+}
+
+#[test]
+fn conv_in_field_4() {
+    to_the_end("jobs, conv in field 4", CONV, 4);
+}
+
+#[test]
+fn conv_in_field_5() {
+    to_the_end("jobs, conv in field 5", CONV, 5);
+}
+
+#[test]
+fn tconv_in_field_4() {
+    to_the_end("jobs, tconv in field 4", TCONV, 4);
+}
+
+#[test]
+fn tconv_in_field_5() {
+    to_the_end("jobs, tconv in field 5", TCONV, 5);
+}
+
+/// Each call finishes its tiles from the map and kernel lent in it, from whatever index it is given.
+#[test]
+fn other_maps_and_indices_from_call_to_call() {
+    for trial in 0..TRIALS {
+        let mut random = Random::new("jobs, other maps and indices", trial);
+        let call = draw_call(&mut random, trial % 2, 4 + trial / 2 % 2);
+        let mut list = List::new(&mut random, call);
+        for _ in 0..8 {
+            let fresh = draw::call(&mut random, list.call.layer);
+            (list.call.map, list.call.kernel) = (fresh.map, fresh.kernel);
+            list.call.next = random.between(0, list.call.layer.tile_total());
+            let sums = sums_of(&list.call);
+            list.advance(&mut random, Some(&sums));
+        }
+    }
+}

@@ -1,0 +1,135 @@
+//! Whole runs of drawn layers: every output is its direct sum, every tile is counted, scratch is left as the request
+//! says.
+
+use wemsteky_tests::call::Call;
+use wemsteky_tests::direct::direct_sums;
+use wemsteky_tests::layer::{Layer, CONV, TCONV};
+use wemsteky_tests::random::{seed, Random};
+use wemsteky_tests::rules::{load, load_limit};
+use wemsteky_tests::{checked, draw};
+
+/// Layers for each window of a kind and field.
+const LAYERS: usize = 8;
+
+/// Runs a call and holds its whole output to the direct sums, which are returned.
+fn run(random: &mut Random, call: &Call) -> Vec<i64> {
+    let mut buffers = draw::buffers(random, call);
+    let sums = direct_sums(&call.layer, &call.map, &call.kernel);
+    assert_eq!(checked::plan(&call.layer), 0, "plan of {:?}", call.layer);
+    let answer = checked::run(call, &mut buffers, Some(&sums));
+    assert_eq!((answer.number, answer.done), (0, 1), "run of {:?}", call.layer);
+    assert!(buffers.output.words().iter().map(|&word| i64::from(word)).eq(sums.iter().copied()), "{:?}", call.layer);
+    sums
+}
+
+/// Every K, P and S.
+fn windows() -> impl Iterator<Item = (usize, usize, usize)> {
+    let paddings = (1..=11).flat_map(|side| (0..side).map(move |padding| (side, padding)));
+    paddings.flat_map(|(side, padding)| (1..=4).map(move |stride| (side, padding, stride)))
+}
+
+fn every_window(test: &'static str, kind: usize, field: usize) {
+    for (number, (side, padding, stride)) in windows().enumerate() {
+        for trial in number * LAYERS..(number + 1) * LAYERS {
+            let mut random = Random::new(test, trial);
+            let given = Layer { kind, field, side, stride, padding, ..Layer::default() };
+            let layer = draw::layer(&mut random, given, 3, 90);
+            let call = draw::call(&mut random, layer);
+            run(&mut random, &call);
+        }
+    }
+}
+
+#[test]
+fn conv_in_field_4() {
+    every_window("runs, conv in field 4", CONV, 4);
+}
+
+#[test]
+fn conv_in_field_5() {
+    every_window("runs, conv in field 5", CONV, 5);
+}
+
+#[test]
+fn tconv_in_field_4() {
+    every_window("runs, tconv in field 4", TCONV, 4);
+}
+
+#[test]
+fn tconv_in_field_5() {
+    every_window("runs, tconv in field 5", TCONV, 5);
+}
+
+/// Maps of up to 512 by 512, the first of them of the greatest size.
+fn large_maps(test: &'static str, kind: usize) {
+    for trial in 0..16 {
+        let mut random = Random::new(test, trial);
+        let any = draw::any_layer(&mut random, kind, 4 + trial % 2, 2, 1);
+        let (height, width) = match trial {
+            0 | 1 => (512, 512),
+            2 | 3 => (512, random.between(11, 20)),
+            4 | 5 => (random.between(11, 20), 512),
+            _ => (random.between(100, 512), random.between(100, 512)),
+        };
+        let layer = Layer { height, width, ..any }.uncropped();
+        let call = draw::call(&mut random, layer);
+        run(&mut random, &call);
+    }
+}
+
+#[test]
+fn large_maps_in_conv() {
+    large_maps("runs, large maps in conv", CONV);
+}
+
+#[test]
+fn large_maps_in_tconv() {
+    large_maps("runs, large maps in tconv", TCONV);
+}
+
+/// Up to 64 channels on both sides, the first trials with exactly 64.
+#[test]
+fn many_channels() {
+    for trial in 0..40 {
+        let mut random = Random::new("runs, many channels", trial);
+        let any = draw::any_layer(&mut random, trial % 2, 4 + trial / 2 % 2, 64, 12);
+        let (inputs, outputs) = if trial < 4 { (64, 64) } else { (any.inputs, any.outputs) };
+        let call = draw::call(&mut random, Layer { inputs, outputs, ..any });
+        run(&mut random, &call);
+    }
+}
+
+/// Weights of one sign that carry the whole load, on a constant map at the peak: some output is as large as its load.
+fn at_the_limit(random: &mut Random, kind: usize, field: usize, peak: usize) -> i64 {
+    let side = random.between(2, 11);
+    let length = random.between(side, 40);
+    let layer = Layer::of([kind, field, 2, 1, length, length, side, 1, 0, peak, 0, 0, 0, 0]).uncropped();
+    let mut call = draw::call(random, layer);
+    let value = random.pick(&[-1, 1]) * peak as i16;
+    let total = load_limit(field) as usize / peak;
+    let weights = draw::weights(random, 2 * side * side, total).into_iter();
+    call.map.fill(value);
+    call.kernel = weights.map(|weight| if weight > 0 { -weight } else { weight }).collect();
+    assert_eq!(load(&call, 0), (total * peak) as u128, "load of {:?}", call.layer);
+    let sums = run(random, &call);
+    let reached = sums.iter().copied().max_by_key(|sum| sum.abs()).unwrap();
+    assert_eq!(reached.unsigned_abs() as u128, load(&call, 0), "greatest output of {:?}", call.layer);
+    reached
+}
+
+/// Both ends of what a residue reads as. In F_5 no load of a layer is the limit itself: the nearest is 32,767 times
+/// 65,538.
+#[test]
+fn loads_at_the_limit() {
+    let mut reached = Vec::new();
+    for trial in 0..240 {
+        let mut random = Random::new("runs, loads at the limit", trial);
+        let kind = trial % 2;
+        let power = 1 << random.below(15);
+        reached.push(at_the_limit(&mut random, kind, 4, power));
+        reached.push(at_the_limit(&mut random, kind, 5, 32_767));
+    }
+    for end in [32_768, -32_768, 2_147_483_646, -2_147_483_646] {
+        assert!(reached.contains(&end), "no output is {end}, seed {}", seed());
+    }
+}
