@@ -1,13 +1,33 @@
 // Tile after tile.
 use layer::shape::Layer;
 use tile::finish::finish_tile;
+use tile::place::place_of;
 ghost use mathlib.Core.Path.{_≡_};
-ghost use Prim.Native.Nat.{_≤_};
+ghost use mathlib.Core.Bool.{true};
+ghost use Prim.Native.Nat.{_-_, _≤_, _<_};
 ghost use lib.ListN.{length};
 ghost use Rattle.algebra.specs.Places.{Changed};
 ghost use Rattle.layer.specs.Shape.{tileTotal};
-ghost use Rattle.layer.specs.ChecksLaws.{Callable};
+ghost use Rattle.layer.specs.ChecksLaws.{Planned, Callable};
+ghost use Rattle.layer.specs.TileLaws.{tileChannel};
 ghost use Rattle.engine.specs.Call.{finished, scratchWords};
+
+// Whether scratch holds the transform of the kernel that the tile needs, as the tile before it left it: that was finished in the same call, it
+// is of the same output channel, and the layer has one map channel.
+fn keeps_kernel(layer: Layer, from: usize, tile: usize) -> bool
+    requires { ⌜ Planned layer × (tile < tileTotal layer) ⌝ }
+    ensures { λ r. ⌜ (r ≡ true → (layer .inputs ≡ 1) × (from < tile) × (tileChannel layer tile ≡ tileChannel layer (tile - 1))) ⌝ }
+{
+    if layer.inputs != 1 {
+        return false;
+    }
+    if tile <= from {
+        return false;
+    }
+    let before = place_of(layer, tile - 1);
+    let place = place_of(layer, tile);
+    place.channel == before.channel
+}
 
 // Finishes the tiles from `from` up to `to`. The first 3N² words of scratch are left as they come.
 pub fn finish_tiles(
@@ -26,7 +46,8 @@ pub fn finish_tiles(
 {
     let mut tile = from;
     while tile < to {
-        finish_tile(layer, tile, map, kernel, output, scratch);
+        let kept = keeps_kernel(layer, from, tile);
+        finish_tile(layer, tile, kept, map, kernel, output, scratch);
         tile += 1;
     }
 }

@@ -2,7 +2,6 @@
 -- transformed in parts that are lent; then their product is added to the sum. It rests on the laws of spectra (SpectrumLaws), of
 -- parts (PlacesLaws), and on what the circular sum of one map channel represents (TileReads).
 use mathlib.Core.Path.{subst, _≡_, refl, sym, ap, _∙_}
-use mathlib.Core.Logic.{_⊎_}
 use mathlib.Core.List.{List}
 use Prim.Native.Nat.{ℕ, _+_, _*_, _-_, _≤_, _<_}
 use native.Mathlib.Nat.{zero-add, mul-le-mul}
@@ -28,8 +27,9 @@ use Rattle.layer.specs.Shape.{transformLength}
 use Rattle.layer.specs.Load.{planeOf}
 use Rattle.layer.specs.ChecksLaws.{Planned, cond-le}
 use Rattle.tile.specs.declared.origin.Origin.{Origin}
-use Rattle.tile.specs.Window.{windowAt, weightAt}
-use Rattle.tile.specs.Channel.{area, KernelReady, WindowReady, Added}
+use Rattle.tile.specs.Window.{windowAt}
+use Rattle.tile.specs.Channel.{area, KernelReady, KernelKept, WindowReady, Added}
+use Rattle.tile.proofs.KernelReady.{kernel-moved}
 use Rattle.tile.proofs.TileReads.{channel-represents}
 
 -- ---- the two parts that are lent
@@ -103,11 +103,7 @@ module _ {A a₁ k₁ a₂ k₂ : ℕ} {xs ks ws : List ℕ} (p : Lending A a₁
 module _ (l : Layer) (map kernel : List ℤ) (o : Origin) where
   -- zs is scratch xs with the transforms of the kernel and of the window of map channel c in the second and the third part
   pub record Transformed (c : ℕ) (xs zs : List ℕ) : Type 0 where
-    pub weight : ℕ → ℕ → ℕ
-    pub weight-value : (a b : ℕ) → a < l .side → b < l .side
-        → Represents (modulus (l .field)) (weightAt l kernel (planeOf l (o .channel) c) a b) (weight a b)
-    pub weight-empty : (a b : ℕ) → (l .side ≤ a) ⊎ (l .side ≤ b) → weight a b ≡ 0
-    pub weight-spectrum : Spectrum (l .field) weight (area l) zs
+    pub weight : KernelKept l kernel (o .channel) c zs
     pub window : ℕ → ℕ → ℕ
     pub window-value : (u v : ℕ) → u < transformLength l → v < transformLength l
         → Represents (modulus (l .field)) (windowAt l map c (o .row) (o .column) u v) (window u v)
@@ -117,17 +113,14 @@ module _ (l : Layer) (map kernel : List ℤ) (o : Origin) where
     pub changed : Changed 0 (area l) (3 * area l) xs zs
 
   pub transformed : {c a₁ k₁ a₂ k₂ : ℕ} {xs ks ws : List ℕ} → Lending (area l) a₁ k₁ a₂ k₂ xs ks ws
-      → KernelReady l kernel (planeOf l (o .channel) c) ks → WindowReady l map c (o .row) (o .column) ws
+      → KernelReady l kernel (planeOf l (o .channel) c) 0 ks → WindowReady l map c (o .row) (o .column) ws
       → Transformed c xs (putMid a₂ k₂ (putMid a₁ k₁ xs ks) ws)
   transformed p k w = record {
-    weight = k .words;
-    weight-value = k .value;
-    weight-empty = k .empty;
-    weight-spectrum = spectrum-moved refl (k .spectrum) (λ i h. rw (zero-add i) (c-eq (kernel-word p i h)));
+    weight = kernel-moved k (λ i h. rw (zero-add i) (kernel-word p i h));
     window = w .words;
     window-value = w .value;
     window-spectrum = spectrum-moved refl (w .spectrum) (λ i h. rw (zero-add i) (c-eq (window-word p i h)));
-    bound = lent-most p (k .bound) (λ i h. w .bound i (omega (arith, p .window-length)));
+    bound = lent-most p (λ i h. rw (zero-add i) at (k .bound i h)) (λ i h. w .bound i (omega (arith, p .window-length)));
     room = omega (arith, lent-changed p .size, p .room);
     changed = lent-changed p;
   }
@@ -144,6 +137,11 @@ module _ (l : Layer) (map kernel : List ℤ) (o : Origin) where
     bound = λ i h. omega (arith, none i h);
     changed = changed;
   }
+
+  -- adding the product leaves the kernel's transform
+  pub kernel-added : {c count : ℕ} {xs zs ys : List ℕ} → Transformed c xs zs → count ≡ area l → Accumulated (l .field) count zs ys
+      → KernelKept l kernel (o .channel) c ys
+  kernel-added ready e accumulated = kernel-moved (ready .weight) (λ i h. accumulated .kept (area l + i) (omega arith))
 
   module _ (plan : Planned l) {c : ℕ} {xs zs : List ℕ} (ready : Transformed c xs zs) where
     -- what `accumulate` asks of scratch
@@ -168,12 +166,12 @@ module _ (l : Layer) (map kernel : List ℤ) (o : Origin) where
     pub added-next : {count : ℕ} {ys : List ℕ} → count ≡ area l → Accumulated (l .field) count zs ys → length ys ≡ length zs
         → (xs₀ : List ℕ) → Added l map kernel o c xs₀ xs → Added l map kernel o (c + 1) xs₀ ys
     added-next {ys = ys} e accumulated size xs₀ before = record {
-      sum = λ i j. before .sum i j + circular2 (transformLength l) (ready .weight) (ready .window) i j;
+      sum = λ i j. before .sum i j + circular2 (transformLength l) (ready .weight .words) (ready .window) i j;
       value = λ i j a b d e.
           rw (add-one c, sumZ-last) (represents-add (before .value i j a b d e)
-          (channel-represents l plan map kernel (o .channel) (o .row) (o .column) c (ready .window) (ready .weight)
-          (ready .window-value) (ready .weight-value) (ready .weight-empty) i j a b d e));
-      spectrum = spectrum-accumulated refl adds kept (ready .weight-spectrum) (ready .window-spectrum);
+          (channel-represents l plan map kernel (o .channel) (o .row) (o .column) c (ready .window) (ready .weight .words)
+          (ready .window-value) (ready .weight .value) (ready .weight .empty) i j a b d e));
+      spectrum = spectrum-accumulated refl adds kept (ready .weight .spectrum) (ready .window-spectrum);
       bound = λ i h. omega (arith, adds .bound i h, ready .changed .before i h, before .bound i h);
       changed = changed-again 0 (3 * area l) (omega arith) (omega arith) (omega arith) (omega arith) (before .changed) then;
     }

@@ -1,23 +1,27 @@
--- The kernel's plane in a part of scratch: what is lent to be loaded, what the transform of the corner asks, and what it leaves.
+-- The kernel's plane in a part of scratch: what is lent to be loaded, what the transform of the corner asks, what it leaves, and that this
+-- stays where the words stay.
 use mathlib.Core.Path.{_≡_, refl, sym, ap, _∙_, subst}
 use mathlib.Core.Bool.{Bool, true, false, _&&_, cond}
 use mathlib.Core.Logic.{_⊎_, inl, inr}
 use mathlib.Core.List.{List}
 use Prim.Native.Nat.{ℕ, _+_, _*_, _-_, _≤_, _<_}
-use native.Mathlib.Nat.{mul-le-mul, mul-le-mul-left, mul-le-mul-right}
+use native.Mathlib.Nat.{zero-add, mul-le-mul, mul-le-mul-left, mul-le-mul-right}
 use native.Mathlib.Omega.{arith}
 use lib.Arith.{digits-lt}
 use lib.Dec.{ltb}
 use lib.IntN.{ℤ}
 use lib.ListN.{length, getD, drop, length-drop}
-use lib.Seq.{length-take-le}
+use lib.Seq.{length-take-le, getD-take, getD-drop}
 use borrow.Author.Tests.{lt-ltb, le-ltb}
 use borrow.Rule.Slice.PartMut.{midOf, putMid, same-len-mid}
+use Rattle.algebra.specs.Places.{Changed}
 use Rattle.algebra.specs.PlacesLaws.{getD-put-mid}
+use Rattle.algebra.specs.CongruenceLaws.{c-eq}
 use Rattle.fermat.specs.Field.{modulus, points}
 use Rattle.fermat.specs.Tile.{Spectrum}
 use Rattle.fermat.specs.Corner.{corner, Cornered}
 use Rattle.fermat.specs.Product.{factorMost}
+use Rattle.fermat.specs.SpectrumLaws.{spectrum-moved}
 use Rattle.layer.specs.declared.shape.Layer.{Layer}
 use Rattle.layer.specs.Shape.{transformLength}
 use Rattle.layer.specs.ChecksLaws.{InRange}
@@ -90,11 +94,35 @@ module _ {l : Layer} {n s : ℕ} {xs : List ℕ} (part : Part l n s xs) where
         none false = refl
 
     pub kernel-ready : (zs : List ℕ) → Spectrum (l .field) words 0 zs → ((i : ℕ) → i < area l → getD zs i 0 ≤ factorMost (l .field))
-        → KernelReady l kernel plane zs
+        → KernelReady l kernel plane 0 zs
     kernel-ready zs spectrum bound = record {
       words = words;
       value = λ a b la lb. rw (value a b la lb) (holds .value a b la lb);
       empty = outside;
       spectrum = spectrum;
-      bound = bound;
+      bound = λ i h. rw (zero-add i) (bound i h);
     }
+
+-- ---- it stays
+
+-- the same words, from another place on
+pub kernel-moved : {l : Layer} {kernel : List ℤ} {plane a b : ℕ} {xs ys : List ℕ} → KernelReady l kernel plane a xs
+    → ((i : ℕ) → i < area l → getD ys (b + i) 0 ≡ getD xs (a + i) 0) → KernelReady l kernel plane b ys
+kernel-moved k same = record {
+  words = k .words;
+  value = k .value;
+  empty = k .empty;
+  spectrum = spectrum-moved refl (k .spectrum) (λ i h. c-eq (same i h));
+  bound = λ i h. rw (same i h) (k .bound i h);
+}
+
+module _ {l : Layer} {kernel : List ℤ} {plane : ℕ} {xs : List ℕ} (kept : KernelReady l kernel plane (area l) xs) where
+  -- changes in the first part leave it
+  pub kernel-left : {to : ℕ} {ys : List ℕ} → to ≤ area l → Changed 0 0 to xs ys → KernelReady l kernel plane (area l) ys
+  kernel-left le changed = kernel-moved kept (λ i h. changed .after (area l + i) (omega arith))
+
+  -- and it is lent with the part
+  pub kernel-lent : (a k : ℕ) → a ≡ area l → area l ≤ k → KernelReady l kernel plane 0 (midOf a k xs)
+  kernel-lent a k e le =
+      kernel-moved kept
+      (λ i h. rw (zero-add i) (getD-take k (drop a xs) i 0 (omega arith) ∙ getD-drop a xs i 0 ∙ ap (λ (j : ℕ). getD xs (j + i) 0) e))

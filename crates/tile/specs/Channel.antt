@@ -14,6 +14,7 @@ use Rattle.fermat.specs.Tile.{Spectrum}
 use Rattle.fermat.specs.Product.{factorMost, productMost}
 use Rattle.layer.specs.declared.shape.Layer.{Layer}
 use Rattle.layer.specs.Shape.{transformLength}
+use Rattle.layer.specs.Load.{planeOf}
 use Rattle.layer.specs.ChecksLaws.{Planned}
 use Rattle.tile.specs.declared.origin.Origin.{Origin}
 use Rattle.tile.specs.Window.{windowAt, weightAt, channelSum}
@@ -22,13 +23,17 @@ use Rattle.tile.specs.Window.{windowAt, weightAt, channelSum}
 abbrev pub area : Layer → ℕ
 area l = transformLength l * transformLength l
 
--- the first N² words are the transform of words for a plane of the kernel, which stand in its corner
-pub record KernelReady (l : Layer) (kernel : List ℤ) (plane : ℕ) (ys : List ℕ) : Type 0 where
+-- the N² words from `at` on are the transform of words for a plane of the kernel, which stand in its corner
+pub record KernelReady (l : Layer) (kernel : List ℤ) (plane at : ℕ) (ys : List ℕ) : Type 0 where
   pub words : ℕ → ℕ → ℕ
   pub value : (a b : ℕ) → a < l .side → b < l .side → Represents (modulus (l .field)) (weightAt l kernel plane a b) (words a b)
   pub empty : (a b : ℕ) → (l .side ≤ a) ⊎ (l .side ≤ b) → words a b ≡ 0
-  pub spectrum : Spectrum (l .field) words 0 ys
-  pub bound : (i : ℕ) → i < area l → getD ys i 0 ≤ factorMost (l .field)
+  pub spectrum : Spectrum (l .field) words at ys
+  pub bound : (i : ℕ) → i < area l → getD ys (at + i) 0 ≤ factorMost (l .field)
+
+-- scratch holds in its second part the transform for map channel c and output channel m
+abbrev pub KernelKept : Layer → (kernel : List ℤ) → (m c : ℕ) → (scratch : List ℕ) → Type 0
+KernelKept l kernel m c = KernelReady l kernel (planeOf l m c) (area l)
 
 -- all words are the transform of words for the window of map channel c that begins at that row and column
 pub record WindowReady (l : Layer) (map : List ℤ) (c row column : ℕ) (ys : List ℕ) : Type 0 where

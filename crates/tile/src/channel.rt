@@ -9,23 +9,36 @@ use fermat::spectrum::tile_spectrum;
 use layer::load::planes_to;
 use layer::shape::Layer;
 ghost use mathlib.Core.Path.{_≡_};
+ghost use mathlib.Core.Bool.{true};
 ghost use Prim.Native.Nat.{ℕ, _+_, _*_, _≤_, _<_};
 ghost use lib.ListN.{length, getD};
 ghost use Rattle.fermat.specs.Product.{productMost};
 ghost use Rattle.layer.specs.ChecksLaws.{InRange};
-ghost use Rattle.tile.specs.Channel.{area, KernelReady, WindowReady, Lent, Within, Adds};
+ghost use Rattle.tile.specs.Channel.{area, KernelReady, KernelKept, WindowReady, Lent, Within, Adds};
 
 // The transform of a plane of the kernel. The words are two parts: it comes out in the first, and the second is used on the way.
 pub fn kernel_spectrum(words: &mut [u64], layer: Layer, kernel: &[i16], plane: usize)
     requires { ⌜ InRange layer × (length (now words) ≡ 2 * area layer) ⌝ }
     requires { ⌜ (length (now kernel) ≡ layer .outputs * layer .inputs * (layer .side * layer .side)) × (plane < layer .outputs * layer .inputs) ⌝ }
-    ensures { λ _. ⌜ KernelReady layer (now (kernel .entry)) plane (now (words .exit)) ⌝ }
+    ensures { λ _. ⌜ KernelReady layer (now (kernel .entry)) plane 0 (now (words .exit)) ⌝ }
 {
     let n = field::points_of(layer.field);
     let from = n * n;
     let to = from + n * layer.side;
     load_kernel(&mut words[from..to], layer, kernel, plane);
     corner_spectrum(words, layer.side, layer.field);
+}
+
+// The same, but where it is kept: then it stands in the first part already.
+fn ready_kernel(words: &mut [u64], layer: Layer, kernel: &[i16], plane: usize, kept: bool)
+    requires { ⌜ InRange layer × (length (now words) ≡ 2 * area layer) ⌝ }
+    requires { ⌜ (length (now kernel) ≡ layer .outputs * layer .inputs * (layer .side * layer .side)) × (plane < layer .outputs * layer .inputs) ⌝ }
+    requires { ⌜ (kept ≡ true → KernelReady layer (now kernel) plane 0 (now words)) ⌝ }
+    ensures { λ _. ⌜ KernelReady layer (now (kernel .entry)) plane 0 (now (words .exit)) ⌝ }
+{
+    if !kept {
+        kernel_spectrum(words, layer, kernel, plane);
+    }
 }
 
 // The transform of the window of map channel c that begins at that row and column.
@@ -45,7 +58,8 @@ pub fn window_spectrum(
     tile_spectrum(words, layer.field);
 }
 
-// Map channel c is added to the sum, which is that of the channels before.
+// Map channel c is added to the sum, which is that of the channels before. The transform of its plane of the kernel is left in scratch; where
+// it is kept from an earlier tile, it is not made again.
 pub fn add_channel(
     scratch: &mut [u64],
     layer: Layer,
@@ -53,10 +67,13 @@ pub fn add_channel(
     map: &[i16],
     kernel: &[i16],
     c: usize,
+    kept: bool,
 )
     requires { ⌜ Lent layer (now map) (now kernel) (now scratch) × Within layer origin × (c < layer .inputs) ⌝ }
     requires { ⌜ ((i : ℕ) → i < area layer → getD (now scratch) i 0 ≤ c * productMost (layer .field)) ⌝ }
+    requires { ⌜ (kept ≡ true → KernelKept layer (now kernel) (origin .channel) c (now scratch)) ⌝ }
     ensures { λ _. ⌜ Adds layer (now (map .entry)) (now (kernel .entry)) origin c (now (scratch .entry)) (now (scratch .exit)) ⌝ }
+    ensures { λ _. ⌜ KernelKept layer (now (kernel .entry)) (origin .channel) c (now (scratch .exit)) ⌝ }
 {
     let n = field::points_of(layer.field);
     let one = n * n;
@@ -64,7 +81,7 @@ pub fn add_channel(
     let three = 3 * one;
     let planes = planes_to(layer, origin.channel);
     let plane = planes.first + c * planes.step;
-    kernel_spectrum(&mut scratch[one..three], layer, kernel, plane);
+    ready_kernel(&mut scratch[one..three], layer, kernel, plane, kept);
     window_spectrum(
         &mut scratch[two..three],
         layer,

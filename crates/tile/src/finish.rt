@@ -8,47 +8,62 @@ use fermat::residues::clear;
 use fermat::spectrum::recover_tile;
 use layer::shape::Layer;
 ghost use mathlib.Core.Path.{_≡_};
-ghost use Prim.Native.Nat.{ℕ, _*_, _<_};
+ghost use mathlib.Core.Bool.{true};
+ghost use Prim.Native.Nat.{ℕ, _-_, _*_, _<_};
 ghost use lib.IntN.{pos};
 ghost use lib.ListN.{length, getD};
 ghost use Rattle.algebra.specs.Places.{Written, Changed};
 ghost use Rattle.layer.specs.Shape.{tileTotal, tileOf};
 ghost use Rattle.layer.specs.Direct.{directAt};
 ghost use Rattle.layer.specs.ChecksLaws.{Callable};
-ghost use Rattle.tile.specs.Channel.{area, Lent, Within, Added};
+ghost use Rattle.layer.specs.TileLaws.{tileChannel};
+ghost use Rattle.tile.specs.Channel.{area, KernelKept, Lent, Within, Added};
 
-// All map channels, one after the other.
-fn add_channels(scratch: &mut [u64], layer: Layer, origin: Origin, map: &[i16], kernel: &[i16])
+// All map channels, one after the other. The last one's transform of the kernel is left in scratch.
+fn add_channels(
+    scratch: &mut [u64],
+    layer: Layer,
+    origin: Origin,
+    map: &[i16],
+    kernel: &[i16],
+    kept: bool,
+)
     requires { ⌜ Lent layer (now map) (now kernel) (now scratch) × Within layer origin ⌝ }
     requires { ⌜ ((i : ℕ) → i < area layer → getD (now scratch) i 0 ≡ 0) ⌝ }
+    requires { ⌜ (kept ≡ true → (layer .inputs ≡ 1) × KernelKept layer (now kernel) (origin .channel) 0 (now scratch)) ⌝ }
     ensures { λ _. ⌜ Added layer (now (map .entry)) (now (kernel .entry)) origin (layer .inputs) (now (scratch .entry)) (now (scratch .exit)) ⌝ }
+    ensures { λ _. ⌜ KernelKept layer (now (kernel .entry)) (origin .channel) (layer .inputs - 1) (now (scratch .exit)) ⌝ }
 {
     let mut c = 0;
     while c < layer.inputs {
-        add_channel(scratch, layer, origin, map, kernel, c);
+        add_channel(scratch, layer, origin, map, kernel, c, kept);
         c += 1;
     }
 }
 
 // Every output that the tile holds becomes its direct sum; every other stays. The first 3N² words of scratch are used and left as they
-// come; words beyond them stay.
+// come; words beyond them stay. A layer with one map channel needs one transform of the kernel for all tiles of an output channel: it is left
+// in scratch, and where it is kept there from the tile before, it is not made again.
 pub fn finish_tile(
     layer: Layer,
     tile: usize,
+    kept: bool,
     map: &[i16],
     kernel: &[i16],
     output: &mut [i32],
     scratch: &mut [u64],
 )
     requires { ⌜ Callable layer (now map) (now kernel) (length (now output)) (length (now scratch)) × (tile < tileTotal layer) ⌝ }
+    requires { ⌜ (kept ≡ true → (layer .inputs ≡ 1) × KernelKept layer (now kernel) (tileChannel layer tile) 0 (now scratch)) ⌝ }
     ensures { λ _. ⌜ Written (pos 0) (λ p. tileOf layer p ≡ tile) (directAt layer (now (map .entry)) (now (kernel .entry))) (now (output .entry)) (now (output .exit)) ⌝ }
     ensures { λ _. ⌜ Changed 0 0 (3 * area layer) (now (scratch .entry)) (now (scratch .exit)) ⌝ }
+    ensures { λ _. ⌜ KernelKept layer (now (kernel .entry)) (tileChannel layer tile) (layer .inputs - 1) (now (scratch .exit)) ⌝ }
 {
     let n = field::points_of(layer.field);
     let one = n * n;
     let origin = origin_of(layer, tile);
     clear(scratch, 0, one);
-    add_channels(scratch, layer, origin, map, kernel);
+    add_channels(scratch, layer, origin, map, kernel, kept);
     recover_tile(&mut scratch[0..one], layer.field);
     store_tile(output, scratch, layer, tile);
 }

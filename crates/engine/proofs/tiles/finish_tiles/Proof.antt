@@ -1,10 +1,15 @@
--- Tile after tile is written; at the end all tiles from `from` up to `to` are.
-use mathlib.Core.Path.{_≡_, sym}
-use Prim.Native.Nat.{_-_, _≤_}
+-- Tile after tile is written; at the end all tiles from `from` up to `to` are. Each leaves the kernel's transform that it used last.
+use mathlib.Core.Path.{_≡_, sym, ap₂, subst}
+use Prim.Native.Nat.{ℕ, _+_, _-_, _≤_, _<_}
 use native.Mathlib.Omega.{arith}
 use borrow.Author.Needs.{needs}
+use denote.Ref.{now}
 use Rattle.algebra.specs.Places.{Changed}
 use Rattle.algebra.specs.PlacesLaws.{changed-nothing, changed-again}
+use Rattle.layer.specs.Load.{planeOf}
+use Rattle.layer.specs.ChecksLaws.{planned}
+use Rattle.layer.specs.TileLaws.{tileChannel}
+use Rattle.tile.specs.Channel.{area, KernelReady, KernelKept}
 use Rattle.engine.specs.Call.{scratchWords}
 use Rattle.engine.proofs.TilesWritten.{TilesWritten, no-tile, one-more-tile, written-finished}
 use Rattle.engine.proofs.tiles.finish_tiles.Statement.{statement}
@@ -14,18 +19,32 @@ abbrev Inv-loop : tie.InvT-loop
 Inv-loop layer from to map kernel output₀ scratch₀ tile₀ output scratch tile =
     (from ≤ tile) × (tile ≤ to) × TilesWritten layer map kernel from tile output₀ output
     × Changed 0 0 (scratchWords layer) scratch₀ scratch
+    × (from < tile → KernelKept layer kernel (tileChannel layer (tile - 1)) (layer .inputs - 1) scratch)
 
 abbrev μ-loop : tie.MeasureT-loop
 μ-loop layer from to map kernel output₀ scratch₀ tile₀ output scratch tile = to - tile
 
 loop-holds : tie.Need-loop-holds Inv-loop μ-loop
-loop-holds c = (omega arith, omega arith, no-tile _ _ _ _, changed-nothing)
+loop-holds c = (omega arith, omega arith, no-tile _ _ _ _, changed-nothing, λ some. absurd (omega arith))
+
+keeps-kernel-requires : tie.Need-keeps-kernel-requires Inv-loop μ-loop
+keeps-kernel-requires c κs =
+    let s = c .before .before .before in
+    (planned _ (s .pre .0 .plan), omega (arith, s .pre .1))
 
 finish-tile-requires : tie.Need-finish-tile-requires Inv-loop μ-loop
 finish-tile-requires c κs =
-    let s = c .before .before .before .before .before in
-    let inv = c .before .before .before .loop .inv in
-    (rw (sym (inv .2 .size), sym (inv .3 .size)) at (s .pre .0), omega (arith, s .pre .1))
+    let loop = c .before .before .before .before .loop in
+    let s = c .before .before .before .before .before .before in
+    let l = s .args .layer in (
+      (rw (sym (loop .inv .2 .size), sym (loop .inv .3 .size)) at (s .pre .0), omega (arith, s .pre .1)),
+      λ kept.
+          let (inputs, some, same) = c .before .before .keeps-kernel .ensures kept in
+          let only : l .inputs - 1 ≡ 0 = omega arith in (
+            inputs,
+            subst (λ (plane : ℕ). KernelReady l (now (s .args .kernel)) plane (area l) (loop .scratch)) (ap₂ (planeOf l) (sym same) only) (loop .inv .4 some),
+          ),
+    )
 
 add-tile : tie.Need-add-tile Inv-loop μ-loop
 add-tile c = search needs
@@ -35,14 +54,16 @@ loop-less c = search needs
 
 loop-again : tie.Need-loop-again Inv-loop μ-loop
 loop-again c =
-    let s = c .before .before .before .before .before .before .before .before .before in
-    let loop = c .before .before .before .before .before .before .before .loop in
+    let s = c .before .before .before .before .before .before .before .before .before .before in
+    let loop = c .before .before .before .before .before .before .before .before .loop in
     let one = c .before .before .before .finish-tile .ensures in
-    let words = scratchWords (s .args .layer) in (
+    let words = scratchWords (s .args .layer) in
+    let next : loop .tile + 1 - 1 ≡ loop .tile = omega arith in (
       omega arith,
       omega arith,
       one-more-tile _ _ _ _ (loop .tile) (loop .inv .0) (loop .inv .2) (one .0),
-      changed-again 0 words (omega arith) (omega arith) (omega arith) (omega arith) (loop .inv .3) (one .1),
+      changed-again 0 words (omega arith) (omega arith) (omega arith) (omega arith) (loop .inv .3) (one .1 .0),
+      λ _. rw next (one .1 .1),
     )
 
 same-length : tie.Need-same-length Inv-loop μ-loop
@@ -65,6 +86,7 @@ finish-tiles-spec =
     Inv-loop
     μ-loop
     loop-holds
+    keeps-kernel-requires
     finish-tile-requires
     add-tile
     loop-less

@@ -13,7 +13,8 @@ use Rattle.layer.specs.Load.{planeOf}
 use Rattle.layer.specs.LoadLaws.{plane-below}
 use Rattle.layer.specs.TileSizes.{length-high}
 use Rattle.tile.specs.Channel.{area, KernelReady}
-use Rattle.tile.proofs.Adding.{Lending, Transformed, transformed, accumulate-asks, added-next}
+use Rattle.tile.proofs.KernelReady.{kernel-lent}
+use Rattle.tile.proofs.Adding.{Lending, Transformed, transformed, accumulate-asks, kernel-added, added-next}
 use Rattle.tile.proofs.channel.add_channel.Statement.{statement}
 use Rattle.tile.proofs.channel.add_channel.Tie as tie
 
@@ -78,17 +79,17 @@ mul-plane c = omega (arith, plane-high (c .before))
 add-plane : tie.Need-add-plane
 add-plane c = omega (arith, plane-high (c .before .before))
 
-mul-kernel-spectrum : tie.Need-mul-kernel-spectrum
-mul-kernel-spectrum c = omega (arith, area-high (c .before .before .before))
+mul-ready-kernel : tie.Need-mul-ready-kernel
+mul-ready-kernel c = omega (arith, area-high (c .before .before .before))
 
-sub-kernel-spectrum : tie.Need-sub-kernel-spectrum
-sub-kernel-spectrum c = search needs
+sub-ready-kernel : tie.Need-sub-ready-kernel
+sub-ready-kernel c = search needs
 
-part-kernel-spectrum-start : tie.Need-part-kernel-spectrum-start
-part-kernel-spectrum-start c = search needs
+part-ready-kernel-start : tie.Need-part-ready-kernel-start
+part-ready-kernel-start c = search needs
 
-part-kernel-spectrum-end : tie.Need-part-kernel-spectrum-end
-part-kernel-spectrum-end c = omega (arith, room (c .before .before .before))
+part-ready-kernel-end : tie.Need-part-ready-kernel-end
+part-ready-kernel-end c = omega (arith, room (c .before .before .before))
 
 -- the kernel's part is lent
 part-length : (a k : ℕ) (xs : List ℕ) → a + k ≤ length xs → length (midOf a k xs) ≡ k
@@ -99,31 +100,37 @@ kernel-part : (c : tie.After-points-of)
 kernel-part c =
     part-length (n c * n c) (3 * (n c * n c) - n c * n c) (now (start c .args .scratch)) (omega (arith, room c)) ∙ omega (arith, area-is c)
 
-kernel-spectrum-requires : tie.Need-kernel-spectrum-requires
-kernel-spectrum-requires c κs =
+ready-kernel-requires : tie.Need-ready-kernel-requires
+ready-kernel-requires c κs =
     let planes = c .before .before .before in
     let p = planes .before in
     let s = start p in
-    let lent = s .pre .0 .0 in
-    ((lent .plan .shape, kernel-part p), (lent .kernel-length, plane-lt planes))
+    let lent = s .pre .0 .0 in (
+      (lent .plan .shape, kernel-part p),
+      (
+        (lent .kernel-length, plane-lt planes),
+        λ kept.
+            rw (plane-is planes) (kernel-lent (s .pre .1 .1 kept) (n p * n p) (3 * (n p * n p) - n p * n p) (area-is p) (omega (arith, area-is p))),
+      ),
+    )
 
 -- and comes back
-module _ (c : tie.After-kernel-spectrum) where
+module _ (c : tie.After-ready-kernel) where
   abbrev sizes : tie.After-points-of
   sizes = c .before .before .before .before .before
 
   abbrev ks : List ℕ
-  ks = c .kernel-spectrum .last .0
+  ks = c .ready-kernel .last .0
 
   kernel-length : length ks ≡ 2 * area (start sizes .args .layer)
-  kernel-length = c .kernel-spectrum .kept .0 ∙ kernel-part sizes
+  kernel-length = c .ready-kernel .kept .0 ∙ kernel-part sizes
 
   abbrev one : ℕ
   one = n sizes * n sizes
 
   scratch-room : 3 * one ≤ length (putMid one (3 * one - one) (now (start sizes .args .scratch)) ks)
   scratch-room =
-      omega (arith, room sizes, same-len-mid one (3 * one - one) (now (start sizes .args .scratch)) ks (c .kernel-spectrum .kept .0))
+      omega (arith, room sizes, same-len-mid one (3 * one - one) (now (start sizes .args .scratch)) ks (c .ready-kernel .kept .0))
 
   window-part : length (midOf (2 * one) (3 * one - 2 * one) (putMid one (3 * one - one) (now (start sizes .args .scratch)) ks))
       ≡ area (start sizes .args .layer)
@@ -150,7 +157,7 @@ window-spectrum-requires c κs =
 
 -- the window's part comes back: both transforms stand in scratch
 module _ (c : tie.After-window-spectrum) where
-  abbrev first : tie.After-kernel-spectrum
+  abbrev first : tie.After-ready-kernel
   first = c .before .before .before .before
 
   abbrev given : tie.Start
@@ -181,7 +188,7 @@ module _ (c : tie.After-window-spectrum) where
       let g = given .args in
       let planes = first .before .before .before .before in
       transformed (g .layer) (now (g .map)) (now (g .kernel)) (g .origin) lending
-      (subst (λ (p : ℕ). KernelReady (g .layer) (now (g .kernel)) p (ks first)) (plane-is planes) (first .kernel-spectrum .ensures))
+      (subst (λ (p : ℕ). KernelReady (g .layer) (now (g .kernel)) p 0 (ks first)) (plane-is planes) (first .ready-kernel .ensures))
       (c .window-spectrum .ensures)
 
 accumulate-requires : tie.Need-accumulate-requires
@@ -189,7 +196,7 @@ accumulate-requires c κs =
     let w = c .before .before .before in
     let s = given w in
     let g = s .args in
-    accumulate-asks (g .layer) (now (g .map)) (now (g .kernel)) (g .origin) (s .pre .0 .0 .plan) (both w) (area-is (sizes (first w))) (s .pre .0 .2) (s .pre .1)
+    accumulate-asks (g .layer) (now (g .map)) (now (g .kernel)) (g .origin) (s .pre .0 .0 .plan) (both w) (area-is (sizes (first w))) (s .pre .0 .2) (s .pre .1 .0)
 
 same-length : tie.Need-same-length
 same-length c = search needs
@@ -200,8 +207,11 @@ returns c =
     let w = last .before .before .before .before in
     let s = given w in
     let g = s .args in
-    added-next (g .layer) (now (g .map)) (now (g .kernel)) (g .origin) (s .pre .0 .0 .plan) (both w) (area-is (sizes (first w)))
-    (last .accumulate .ensures) (last .accumulate .kept .0)
+    let plan = s .pre .0 .0 .plan in
+    let is = area-is (sizes (first w)) in (
+      added-next (g .layer) (now (g .map)) (now (g .kernel)) (g .origin) plan (both w) is (last .accumulate .ensures) (last .accumulate .kept .0),
+      kernel-added (g .layer) (now (g .map)) (now (g .kernel)) (g .origin) (both w) is (last .accumulate .ensures),
+    )
 
 pub add-channel-spec : {M : Type 1} → statement M
 add-channel-spec =
@@ -214,11 +224,11 @@ add-channel-spec =
     planes-to-requires
     mul-plane
     add-plane
-    mul-kernel-spectrum
-    sub-kernel-spectrum
-    part-kernel-spectrum-start
-    part-kernel-spectrum-end
-    kernel-spectrum-requires
+    mul-ready-kernel
+    sub-ready-kernel
+    part-ready-kernel-start
+    part-ready-kernel-end
+    ready-kernel-requires
     mul-window-spectrum
     sub-window-spectrum
     part-window-spectrum-start

@@ -1,5 +1,5 @@
 -- The first part is cleared, all map channels are added, the sum is taken back to residues, and these are stored. Finishing has the law.
-use mathlib.Core.Path.{_≡_, ap, _∙_}
+use mathlib.Core.Path.{_≡_, sym, ap, _∙_, subst}
 use mathlib.Core.List.{List, _++_}
 use Prim.Native.Nat.{ℕ, _+_, _*_, _-_, _≤_, _<_}
 use native.Mathlib.Nat.{mul-le-mul}
@@ -15,15 +15,16 @@ use Rattle.layer.specs.Shape.{tileOf}
 use Rattle.layer.specs.Direct.{directAt}
 use Rattle.layer.specs.ChecksLaws.{Planned, planned}
 use Rattle.layer.specs.TileSizes.{length-high}
-use Rattle.tile.specs.Channel.{area}
+use Rattle.tile.specs.Channel.{area, KernelKept}
 use Rattle.tile.specs.Stored.{halfOf, wordOf, storedAt, Storable}
+use Rattle.tile.proofs.KernelReady.{kernel-left}
 use Rattle.tile.proofs.Finishing.{At, finished}
 use Rattle.tile.proofs.finish.finish_tile.Statement.{statement}
 use Rattle.tile.proofs.finish.finish_tile.Tie as tie
 
 -- what rules 1 to 9 give
 plan : (s : tie.Start) → Planned (s .args .layer)
-plan s = planned (s .args .layer) (s .pre .0 .plan)
+plan s = planned (s .args .layer) (s .pre .0 .0 .plan)
 
 -- the sizes
 module _ (c : tie.After-points-of) where
@@ -42,7 +43,7 @@ module _ (c : tie.After-points-of) where
       mul-le-mul most most
 
   room : 3 * one ≤ length (now (start .args .scratch))
-  room = omega (arith, area-is, start .pre .0 .scratch-low)
+  room = omega (arith, area-is, start .pre .0 .0 .scratch-low)
 
 points-of-requires : tie.Need-points-of-requires
 points-of-requires c κs = plan (c .before) .shape .field-high
@@ -51,7 +52,7 @@ mul-one : tie.Need-mul-one
 mul-one c = omega (arith, area-high c)
 
 origin-of-requires : tie.Need-origin-of-requires
-origin-of-requires c κs = (plan (start c), start c .pre .1)
+origin-of-requires c κs = (plan (start c), start c .pre .0 .1)
 
 clear-requires : tie.Need-clear-requires
 clear-requires c κs = (omega arith, omega (arith, room (c .before .before)))
@@ -66,13 +67,19 @@ add-channels-requires c κs =
       (
         record {
           plan = plan s;
-          map-length = s .pre .0 .map-length;
-          kernel-length = s .pre .0 .kernel-length;
-          scratch-low = omega (arith, none .size, s .pre .0 .scratch-low);
+          map-length = s .pre .0 .0 .map-length;
+          kernel-length = s .pre .0 .0 .kernel-length;
+          scratch-low = omega (arith, none .size, s .pre .0 .0 .scratch-low);
         },
         origin .origin-of .ensures .1,
       ),
-      λ i h. none .here i (omega (arith, room sizes, area-is sizes)) (omega arith, omega (arith, area-is sizes)),
+      (
+        λ i h. none .here i (omega (arith, room sizes, area-is sizes)) (omega arith, omega (arith, area-is sizes)),
+        λ kept. (
+          s .pre .1 kept .0,
+          kernel-left (rw (sym (origin .origin-of .ensures .0 .0)) at (s .pre .1 kept .1)) (omega (arith, area-is sizes)) (changed-written 0 (one sizes - 0) none),
+        ),
+      ),
     )
 
 -- scratch with the sum over all map channels
@@ -93,7 +100,7 @@ module _ (c : tie.After-add-channels) where
   lent = take (one sizes - 0) ys
 
   length-is : length ys ≡ length (now (given .args .scratch))
-  length-is = c .add-channels .ensures .changed .size ∙ cleared .clear .ensures .size
+  length-is = c .add-channels .ensures .0 .changed .size ∙ cleared .clear .ensures .size
 
   lent-le : one sizes - 0 ≤ length ys
   lent-le = omega (arith, length-is, room sizes)
@@ -145,15 +152,15 @@ module _ (c : tie.After-recover-tile) where
       × (storedAt (g .layer) (g .tile) (rs ++ rest) p ≡ directAt (g .layer) (now (g .map)) (now (g .kernel)) p)
   held =
       let g = source .args in
-      finished (g .layer) (now (g .map)) (now (g .kernel)) (length (now (g .output))) (length (now (g .scratch))) (g .tile) (source .pre .0)
-      _ (at-tile sum) _ (ys sum) (lent sum) rs rest (sum .add-channels .ensures)
+      finished (g .layer) (now (g .map)) (now (g .kernel)) (length (now (g .output))) (length (now (g .scratch))) (g .tile) (source .pre .0 .0)
+      _ (at-tile sum) _ (ys sum) (lent sum) rs rest (sum .add-channels .ensures .0)
       (λ i h. getD-take (one (sizes sum) - 0) (ys sum) i 0 (omega (arith, area-is (sizes sum)))) (c .recover-tile .ensures) words-length
 
 store-tile-requires : tie.Need-store-tile-requires
 store-tile-requires c κs =
     let tile = c .before .before .before .before in
     let s = source tile in
-    ((plan s, s .pre .0 .output-length, s .pre .1), (omega (arith, words-length tile, length-append (rs tile) (rest tile)), λ p below e. held tile p below e .0))
+    ((plan s, s .pre .0 .0 .output-length, s .pre .0 .1), (omega (arith, words-length tile, length-append (rs tile) (rest tile)), λ p below e. held tile p below e .0))
 
 same-length : tie.Need-same-length
 same-length c = search needs
@@ -166,14 +173,19 @@ returns c =
     let tile = c .before .before .before .before .before .before in
     let all = sum tile in
     let k = one (sizes all) - 0 in
-    let a = area (source tile .args .layer) in
+    let g = source tile .args in
+    let a = area (g .layer) in
     let none = changed-written 0 k (cleared all .clear .ensures) in
     let back : Changed 0 0 (0 + k) (ys all) (putMid 0 k (ys all) (rs tile)) =
     changed-part (ys all) (rs tile) 0 k (omega (arith, lent-le all)) (omega (arith, words-length tile, area-is (sizes all))) in
     let small : 0 + k ≤ 3 * a = omega (arith, area-is (sizes all)) in (
       written-as (c .before .store-tile .ensures) (λ p l h. h) (λ p h. h) (λ p below e. held tile p below e .1),
-      changed-again 0 (3 * a) (omega arith) (omega arith) (omega arith) small
-          (changed-again 0 (3 * a) (omega arith) (omega arith) small (omega arith) none (all .add-channels .ensures .changed)) back,
+      (
+        changed-again 0 (3 * a) (omega arith) (omega arith) (omega arith) small
+            (changed-again 0 (3 * a) (omega arith) (omega arith) small (omega arith) none (all .add-channels .ensures .0 .changed)) back,
+        subst (λ (m : ℕ). KernelKept (g .layer) (now (g .kernel)) m (g .layer .inputs - 1) (putMid 0 k (ys all) (rs tile))) (at-tile all .channel)
+            (kernel-left (all .add-channels .ensures .1) (omega (arith, area-is (sizes all))) back),
+      ),
     )
 
 pub finish-tile-spec : {M : Type 1} → statement M
