@@ -10,7 +10,7 @@ use borrow.Rule.Slice.PartMut.{midOf}
 use Rattle.bench_text.specs.declared.number.Value.{Value}
 use Rattle.bench_text.specs.declared.words.Span.{Span}
 use Rattle.bench_text.specs.declared.words.Read.{Read}
-use Rattle.bench_text.specs.Words.{wordsOf, everyWord, isWhole, wholeValue, isValue, signedValue, isFigure, figuresOf, valuesOf}
+use Rattle.bench_text.specs.Words.{wordsOf, everyWord, isWhole, wholeValue, isValue, signedValue, valuesOf}
 
 -- the number of digits, or 65,536 where it is larger than 65,535 or no number
 unfoldable pub figureOr : List ℕ → ℕ

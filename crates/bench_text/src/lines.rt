@@ -8,6 +8,7 @@ ghost use lib.ListN.{length};
 ghost use Rattle.bench_text.specs.Lines.{decimal, signedDecimal, numbered, unreadable, rowsText};
 ghost use Rattle.bench_text.specs.Writing.{Appended};
 
+// Bytes as they are.
 fn put_bytes(lines: &mut [u8], at: usize, bytes: &[u8]) -> usize
     requires { ⌜ at + length (now bytes) ≤ length (now lines) ⌝ }
     ensures { λ r. ⌜ Appended at (now (bytes .entry)) (now (lines .entry)) (now (lines .exit)) r ⌝ }
@@ -96,6 +97,7 @@ pub fn put_numbered(lines: &mut [u8], at: usize, word: &[u8], n: usize) -> usize
     put_bytes(lines, end, b"\n")
 }
 
+// The line of an input that cannot be read.
 pub fn put_unreadable(lines: &mut [u8], at: usize) -> usize
     requires { ⌜ at + 11 ≤ length (now lines) ⌝ }
     ensures { λ r. ⌜ Appended at unreadable (now (lines .entry)) (now (lines .exit)) r ⌝ }

@@ -1,6 +1,5 @@
 // The number that a word is.
 ghost use mathlib.Core.Path.{_≡_};
-ghost use mathlib.Core.Bool.{true};
 ghost use Rattle.bench_text.specs.Reading.{figureOr, SignedRead};
 use fermat::number::lesser;
 use fermat::rules::is_inside;

@@ -21,6 +21,7 @@ pub struct Read {
     pub at: usize,
 }
 
+// A space or a newline.
 fn is_separator(byte: u8) -> bool
     ensures { λ r. ⌜ r ≡ isSeparator byte ⌝ }
 {

@@ -1,20 +1,17 @@
 -- What a list of calls comes to: the job and the output after it, by the sum of the accepted calls' budgets. A whole run is such a list. It
 -- rests on the laws of the checks and on those of finished tiles.
 use mathlib.Core.Path.{_≡_, refl, sym, ap, _∙_}
-use mathlib.Core.Bool.{true, false}
-use mathlib.Core.List.{List, [], _∷_, _++_}
+use mathlib.Core.List.{List, [], _∷_}
 use Prim.Native.Nat.{ℕ, zero, suc, _+_, _-_, _<_, min}
 use native.Mathlib.Nat.{add-zero, zero-add, add-assoc}
 use native.Mathlib.Omega.{arith}
 use lib.IntN.{ℤ}
 use lib.ListN.{length}
-use borrow.Author.Tests.{le-leb}
 use Rattle.algebra.specs.Places.{table}
-use Rattle.fermat.specs.Rules.{Rule, rule, firstBroken, outcome}
+use Rattle.fermat.specs.Rules.{outcome}
 use Rattle.layer.specs.declared.shape.Layer.{Layer}
 use Rattle.layer.specs.Shape.{tileTotal}
 use Rattle.layer.specs.Direct.{directAt}
-use Rattle.layer.specs.Checks.{shapeRules, outputRules, callRules, runCode, jobCode}
 use Rattle.layer.specs.ChecksLaws.{Callable, planned, job-callable}
 use Rattle.engine.specs.declared.job.Job.{Job}
 use Rattle.engine.specs.declared.job.Progress.{Progress}

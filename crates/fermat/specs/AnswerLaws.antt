@@ -1,6 +1,6 @@
 -- The code 0 says that the field is 4 or 5, that there are N words and that each is below the field, and these say that the code is 0;
 -- what stands in the buffer after accepted and after refused words. It rests on the laws of rules.
-use mathlib.Core.Path.{_≡_, refl, ap}
+use mathlib.Core.Path.{_≡_, refl}
 use mathlib.Core.Bool.{true}
 use mathlib.Core.List.{List, [], _∷_}
 use Prim.Native.Nat.{ℕ, zero, suc, _<_}

@@ -1,6 +1,5 @@
 // The transform of each lane by halving: length n from two of half the length. It serves a row (one lane) and a tile (as many lanes as rows).
-ghost use mathlib.Core.Path.{_≡_};
-ghost use Prim.Native.Nat.{_+_, _-_, _*_, _^_, min};
+ghost use Prim.Native.Nat.{_+_, _-_, _*_, _^_};
 ghost use lib.ListN.{length};
 ghost use Rattle.fermat.specs.Butterfly.{Bound, AtMost};
 ghost use Rattle.fermat.specs.Halving.{Forward, Inverse, Grid, Filled};

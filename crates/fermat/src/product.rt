@@ -1,9 +1,8 @@
 // Between the forward and the inverse transform of a tile: products of words that are not reduced, added up; the sums brought down to a
 // small bound; and, after the inverse, residues. Each loop works word by word without a branch on a word.
 ghost use mathlib.Core.Path.{_≡_};
-ghost use Prim.Native.Nat.{ℕ, _+_, _-_, _*_, _%_, _^_, _<_, _≤_};
+ghost use Prim.Native.Nat.{ℕ, _+_, _-_, _*_, _%_, _<_, _≤_};
 ghost use lib.ListN.{length, getD};
-ghost use Rattle.fermat.specs.Field.{modulus};
 ghost use Rattle.fermat.specs.Product.{factorMost, Product, Settled, Accumulated, Finishing, Finished, finishedOf, inverseMost};
 use crate::field::bits_of;
 use crate::field::levels_of;

@@ -9,7 +9,6 @@ use lib.ListN.{length, getD, List·getD-append}
 use Rattle.algebra.specs.Sum.{sumZ}
 use Rattle.algebra.specs.ResidueLaws.{Represents}
 use Rattle.fermat.specs.Field.{modulus}
-use Rattle.fermat.specs.Halving.{word}
 use Rattle.fermat.specs.Tile.{Spectrum, Recovered}
 use Rattle.fermat.specs.SpectrumLaws.{spectrum-kept}
 use Rattle.fermat.specs.OrderLaws.{place-lt}

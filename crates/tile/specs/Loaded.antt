@@ -1,7 +1,7 @@
 -- What the loading of a tile promises: a value becomes a word that represents it modulo m and is at most 2m, a place with no value the word 0.
 use mathlib.Core.Path.{_≡_}
 use mathlib.Core.List.{List}
-use Prim.Native.Nat.{ℕ, _*_, _-_, _≤_, _<_}
+use Prim.Native.Nat.{ℕ, _*_, _≤_, _<_}
 use lib.IntN.{ℤ}
 use lib.ListN.{length, getD}
 use Rattle.algebra.specs.ResidueLaws.{Represents}

@@ -1,5 +1,5 @@
 -- `call_code` makes the checks in the order of `callRules`. `left-k`: after k tests that passed, the rules from the k-th on decide.
-use mathlib.Core.Path.{_≡_, refl, sym, _∙_}
+use mathlib.Core.Path.{refl, sym, _∙_}
 use mathlib.Core.List.{List}
 use Prim.Native.Nat.{ℕ, _≤_}
 use borrow.Author.Needs.{needs}

@@ -1,8 +1,7 @@
 -- The three calls are a list of calls with a refused one: ThreeCalls says what it comes to.
-use mathlib.Core.Path.{_≡_, refl, _∙_}
+use mathlib.Core.Path.{refl, _∙_}
 use borrow.Author.Needs.{needs}
 use denote.Ref.{now}
-use lib.ListN.{length}
 use Rattle.engine.proofs.Outcomes.{output-length, scratch-length}
 use Rattle.engine.proofs.ThreeCalls.{three-calls}
 use Rattle.engine.proofs.pair.three_calls.Statement.{statement}
