@@ -1,7 +1,8 @@
-//! What the program `cases` must write, from direct sums.
+//! What the program `cases` must write, from direct sums and rules.
 
-use crate::transform::{inverse, modulus, points, transform};
-use std::fmt::Write;
+mod charts;
+mod jobs;
+mod vectors;
 
 /// A fixed sequence: each number is the one before times 1,103,515,245 plus 12,345, modulo 2 to the power 31.
 struct Sequence(u64);
@@ -11,70 +12,26 @@ impl Sequence {
         self.0 = (self.0 * 1_103_515_245 + 12_345) % 2_147_483_648;
         self.0
     }
-}
 
-/// A 1 at place 1, the largest residue there, the largest residue everywhere, and drawn residues.
-fn vector(field: usize, number: usize, sequence: &mut Sequence) -> Vec<u64> {
-    let (n, m) = (points(field), modulus(field));
-    let mut words = vec![0; n];
-    match number {
-        0 => words[1] = 1,
-        1 => words[1] = m - 1,
-        2 => words.fill(m - 1),
-        _ => {
-            for word in &mut words {
-                let high = sequence.next();
-                *word = (high * 2_147_483_648 + sequence.next()) % m;
-            }
-        }
+    /// A residue from two numbers of the sequence.
+    fn residue(&mut self, m: u64) -> u64 {
+        let high = self.next();
+        (high * 2_147_483_648 + self.next()) % m
     }
-    words
-}
 
-fn line(text: &mut String, words: &[u64]) {
-    for word in words {
-        write!(text, "{word} ").unwrap();
+    /// Values from −peak to peak, one from each number.
+    fn values(&mut self, count: usize, peak: i16) -> Vec<i16> {
+        (0..count).map(|_| (self.next() % (2 * peak as u64 + 1)) as i16 - peak).collect()
     }
-    text.push('\n');
 }
 
-/// Calls that are refused: the field, how many words there are (each 7, but the last), the last word, and the number.
-const REFUSED: [(u64, usize, u64, u64); 13] = [
-    (0, 0, 0, 2),
-    (3, 31, 65_537, 2),
-    (6, 64, 1, 2),
-    (u64::MAX, 64, 1, 2),
-    (4, 0, 0, 18),
-    (4, 31, 65_537, 18),
-    (4, 33, 1, 18),
-    (4, 64, 1, 18),
-    (5, 32, 1, 18),
-    (5, 63, 1, 18),
-    (4, 32, 65_537, 19),
-    (4, 32, u64::MAX, 19),
-    (5, 64, 4_294_967_297, 19),
-];
+/// Values in rows, with single spaces between.
+fn rows(values: &[i64], width: usize) -> String {
+    let line = |row: &[i64]| row.iter().map(i64::to_string).collect::<Vec<_>>().join(" ") + "\n";
+    values.chunks(width).map(line).collect()
+}
 
 /// The whole text.
 pub fn text() -> String {
-    let mut text = String::new();
-    for field in [4, 5] {
-        let mut sequence = Sequence(field as u64);
-        for number in 0..8 {
-            let words = vector(field, number, &mut sequence);
-            writeln!(text, "field {field} vector {number}").unwrap();
-            line(&mut text, &words);
-            line(&mut text, &transform(field, &words));
-            line(&mut text, &inverse(field, &words));
-        }
-    }
-    for (_, len, last, code) in REFUSED {
-        let mut words = vec![7; len];
-        if let Some(word) = words.last_mut() {
-            *word = last;
-        }
-        write!(text, "refused {code} {code} ").unwrap();
-        line(&mut text, &words);
-    }
-    text
+    [vectors::text(), charts::text(), jobs::text()].concat()
 }

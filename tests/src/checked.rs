@@ -53,8 +53,8 @@ fn held(
     answer
 }
 
-/// A refused call finishes nothing, hands its index back and is not done.
-fn expected_answer(call: &Call) -> Answer {
+/// What a job call must answer. A refused one finishes nothing, hands its index back and is not done.
+pub fn expected_answer(call: &Call) -> Answer {
     let number = rules::job_number(call);
     if number != 0 {
         return Answer { number, count: 0, next: call.next, done: 0 };
@@ -68,19 +68,11 @@ fn expected_answer(call: &Call) -> Answer {
 /// Writes what the outputs of some tiles must be: their sums, or what was found where no sums are given.
 fn finish(layer: &Layer, tiles: Range<usize>, sums: Option<&[i64]>, found: &Buffer<i32>, expected: &mut Buffer<i32>) {
     let words = expected.lend(layer.output_length() as usize);
-    let mut place = 0;
-    for channel in 0..layer.outputs {
-        for row in 0..layer.rows {
-            for column in 0..layer.columns {
-                if tiles.contains(&layer.tile_of(channel, row, column)) {
-                    words[place] = match sums {
-                        Some(sums) => i32::try_from(sums[place]).expect("an accepted sum fits 32 bits"),
-                        None => found.words()[place],
-                    };
-                }
-                place += 1;
-            }
-        }
+    for place in layer.places(tiles) {
+        words[place] = match sums {
+            Some(sums) => i32::try_from(sums[place]).expect("an accepted sum fits 32 bits"),
+            None => found.words()[place],
+        };
     }
 }
 

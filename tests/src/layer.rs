@@ -2,6 +2,7 @@
 //! formulas. Sizes are taken in 128 bits; they are asked for only of layers whose numbers are inside their ranges.
 
 use crate::transform::points;
+use std::ops::Range;
 
 pub const CONV: usize = 0;
 pub const TCONV: usize = 1;
@@ -128,6 +129,16 @@ impl Layer {
         let down = row * self.step() / self.tile_side();
         let across = column * self.step() / self.tile_side();
         (channel * self.tiles_down() + down) * self.tiles_across() + across
+    }
+
+    /// The places in the output, in order, of the outputs that some tiles hold.
+    pub fn places(&self, tiles: Range<usize>) -> impl Iterator<Item = usize> {
+        let layer = *self;
+        let output = (0..layer.outputs).flat_map(move |channel| {
+            (0..layer.rows).flat_map(move |row| (0..layer.columns).map(move |column| (channel, row, column)))
+        });
+        let held = output.map(move |(channel, row, column)| tiles.contains(&layer.tile_of(channel, row, column)));
+        held.enumerate().filter_map(|(place, held)| held.then_some(place))
     }
 
     /// Where the K by K weights from a map channel to an output channel begin in the kernel.

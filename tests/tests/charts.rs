@@ -1,5 +1,4 @@
-//! The chart cases of the request, run by the engine. Cases 1 to 12 are proved of the definitions; case 13 is here
-//! alone.
+//! The chart cases of the request, run by the engine. Cases 1 to 12 are proved of the definitions; case 13 is only run.
 
 use wemsteky_tests::call::Call;
 use wemsteky_tests::example::Example;

@@ -1,10 +1,10 @@
--- Signs: a number taken from 0, tests against 0, and how far the negative of a number reaches. It rests on the definitions alone.
+-- Signs: a number taken from 0, tests against 0, and how far the negative of a number and the difference of two reach. It rests on the definitions alone.
 use mathlib.Core.Path.{_≡_, subst}
-use mathlib.Core.Bool.{true, false}
-use Prim.Native.Nat.{zero, suc, _+_, _≤_, _<_}
+use mathlib.Core.Bool.{Bool, true, false, cond}
+use Prim.Native.Nat.{ℕ, zero, suc, _+_, _-_, _≤_, _<_}
 use native.Mathlib.Omega.{arith}
 use borrow.Author.Tests.{ltb-true}
-use lib.Dec.{T}
+use lib.Dec.{T, ltb}
 use lib.IntN.{ℤ, pos, negsuc, negℤ, _-ℤ_, +ℤ-idl}
 use lib.Signed.{mag, ltZ, nonNeg}
 
@@ -24,3 +24,11 @@ pub mag-neg : (z : ℤ) → mag (negℤ z) ≤ mag z + 1
 mag-neg (pos zero) = omega arith
 mag-neg (pos (suc n)) = omega arith
 mag-neg (negsuc n) = omega arith
+
+pub difference-small : (a b n : ℕ) → a ≤ b + n → b ≤ n + 1 → mag (pos a -ℤ pos b) ≤ n
+difference-small a zero n h k = omega arith
+difference-small a (suc b) n h k = go (ltb a (suc b))
+  where
+    go : (t : Bool) → mag (cond t (negsuc (suc b - suc a)) (pos (a - suc b))) ≤ n
+    go true = omega arith
+    go false = omega arith

@@ -4,7 +4,6 @@ mod ReadSigns
 mod NextWords
 mod ReadWords
 -- of writing
-mod Appending
 mod Decimals
 mod SignedDecimals
 -- of the answer

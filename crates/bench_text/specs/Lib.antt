@@ -5,3 +5,5 @@ pub mod Printed
 -- what the code promises on the way
 pub mod Reading
 pub mod Writing
+-- laws
+pub mod WritingLaws

@@ -13,7 +13,7 @@ use Rattle.layer.specs.Checks.{planCode}
 use Rattle.layer.specs.ChecksLaws.{planned}
 use Rattle.bench_text.specs.Words.{wordsOf, figuresOf}
 use Rattle.bench_text.specs.Printed.{isLong, inputWords, headerReads}
-use Rattle.bench_text.proofs.Appending.{append-within}
+use Rattle.bench_text.specs.WritingLaws.{append-within}
 use Rattle.bench_text.proofs.Headers.{take-min, headerLayer, header-unread, layer-refused, long-unread, body-follows}
 use Rattle.bench_text.proofs.answer.answer.Statement.{statement}
 use Rattle.bench_text.proofs.answer.answer.Tie as tie

@@ -10,7 +10,7 @@ use denote.Ref.{now}
 use lib.ListN.{length, set, length-append}
 use Rattle.bench_text.specs.Lines.{decimal}
 use Rattle.bench_text.specs.Writing.{Appended}
-use Rattle.bench_text.proofs.Appending.{append-none, append-byte, append-two}
+use Rattle.bench_text.specs.WritingLaws.{append-none, append-byte, append-two}
 use Rattle.bench_text.proofs.Decimals.{leading, leading-none, leading-tenth, decimal-last}
 use Rattle.bench_text.proofs.lines.put_number.Reads as put-number
 use Rattle.bench_text.proofs.lines.put_number.Kinds as put-number-kinds

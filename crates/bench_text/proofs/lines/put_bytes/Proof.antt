@@ -7,7 +7,7 @@ use borrow.Author.Needs.{needs}
 use lib.ListN.{length, take}
 use lib.Seq.{take-suc, take-all}
 use Rattle.bench_text.specs.Writing.{Appended}
-use Rattle.bench_text.proofs.Appending.{append-none, append-byte, append-two}
+use Rattle.bench_text.specs.WritingLaws.{append-none, append-byte, append-two}
 use Rattle.bench_text.proofs.lines.put_bytes.Statement.{statement}
 use Rattle.bench_text.proofs.lines.put_bytes.Tie as tie
 

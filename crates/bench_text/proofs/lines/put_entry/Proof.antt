@@ -7,7 +7,7 @@ use lib.ListN.{length}
 use mir.Facts.{toZ-ofZ}
 use Rattle.bench_text.specs.Lines.{signedDecimal}
 use Rattle.bench_text.specs.Writing.{Appended}
-use Rattle.bench_text.proofs.Appending.{append-two}
+use Rattle.bench_text.specs.WritingLaws.{append-two}
 use Rattle.bench_text.proofs.SignedDecimals.{signed-few}
 use Rattle.bench_text.proofs.lines.put_entry.Statement.{statement}
 use Rattle.bench_text.proofs.lines.put_entry.Tie as tie

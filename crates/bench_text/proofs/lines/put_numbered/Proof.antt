@@ -4,7 +4,7 @@ use native.Mathlib.Omega.{arith}
 use borrow.Author.Needs.{needs}
 use lib.ListN.{length}
 use Rattle.bench_text.specs.Lines.{decimal}
-use Rattle.bench_text.proofs.Appending.{append-two}
+use Rattle.bench_text.specs.WritingLaws.{append-two}
 use Rattle.bench_text.proofs.Decimals.{decimal-few}
 use Rattle.bench_text.proofs.lines.put_numbered.Statement.{statement}
 use Rattle.bench_text.proofs.lines.put_numbered.Tie as tie

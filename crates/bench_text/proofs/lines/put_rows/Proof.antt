@@ -12,7 +12,7 @@ use lib.ListN.{length, getD, length-append}
 use mir.Facts.{toZ-ofZ}
 use Rattle.bench_text.specs.Lines.{signedDecimal, rowsText}
 use Rattle.bench_text.specs.Writing.{Appended}
-use Rattle.bench_text.proofs.Appending.{append-none, append-two}
+use Rattle.bench_text.specs.WritingLaws.{append-none, append-two}
 use Rattle.bench_text.proofs.SignedDecimals.{signed-few}
 use Rattle.bench_text.proofs.lines.put_rows.Statement.{statement}
 use Rattle.bench_text.proofs.lines.put_rows.Tie as tie

@@ -8,7 +8,7 @@ use lib.IntN.{natAbs}
 use mir.Facts.{toZ-ofZ}
 use Rattle.bench_text.specs.Lines.{signedDecimal}
 use Rattle.bench_text.specs.Writing.{Appended}
-use Rattle.bench_text.proofs.Appending.{append-none, append-two}
+use Rattle.bench_text.specs.WritingLaws.{append-none, append-two}
 use Rattle.bench_text.proofs.SignedDecimals.{sign, sign-below, sign-above, sign-size, sign-long, size-few}
 use Rattle.bench_text.proofs.lines.put_value.Statement.{statement}
 use Rattle.bench_text.proofs.lines.put_value.Tie as tie

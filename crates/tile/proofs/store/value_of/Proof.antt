@@ -1,26 +1,16 @@
 -- `value_of` subtracts in 64 bits, where both numbers fit; the difference fits 32.
 use mathlib.Core.Path.{_≡_}
-use mathlib.Core.Bool.{Bool, true, false, cond}
-use Prim.Native.Nat.{ℕ, zero, suc, _+_, _-_, _≤_}
+use Prim.Native.Nat.{_-_}
 use native.Mathlib.Omega.{arith}
-use lib.Dec.{ltb}
-use lib.IntN.{pos, negsuc, _-ℤ_}
-use lib.Signed.{mag}
+use lib.IntN.{pos}
 use mir.Syntax.{w32, w64}
 use mir.Val.{toZ, SFits}
 use mir.Facts.{toZ-pos, toZ-ofZ, sfits-widen}
 use borrow.Author.Needs.{needs}
+use Rattle.algebra.specs.SignLaws.{difference-small}
 use Rattle.tile.specs.Stored.{lessHalf}
 use Rattle.tile.proofs.store.value_of.Statement.{statement}
 use Rattle.tile.proofs.store.value_of.Tie as tie
-
-difference-small : (a b n : ℕ) → a ≤ b + n → b ≤ n + 1 → mag (pos a -ℤ pos b) ≤ n
-difference-small a zero n h k = omega arith
-difference-small a (suc b) n h k = go (ltb a (suc b))
-  where
-    go : (t : Bool) → mag (cond t (negsuc (suc b - suc a)) (pos (a - suc b))) ≤ n
-    go true = omega arith
-    go false = omega arith
 
 cast-result : tie.Need-cast-result
 cast-result c = search needs

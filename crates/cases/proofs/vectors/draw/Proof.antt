@@ -4,8 +4,8 @@ use Prim.Native.Nat.{_-_, _≤_}
 use native.Mathlib.Omega.{arith}
 use lib.ListN.{length, length-set}
 use borrow.Author.Needs.{needs}
-use Rattle.cases.proofs.draw.Statement.{statement}
-use Rattle.cases.proofs.draw.Tie as tie
+use Rattle.cases.proofs.vectors.draw.Statement.{statement}
+use Rattle.cases.proofs.vectors.draw.Tie as tie
 
 abbrev Inv-loop : tie.InvT-loop
 Inv-loop words₀ m seed state₀ i₀ words state i = (i ≤ length words) × (length words ≡ length words₀)

@@ -2,8 +2,8 @@
 use Prim.Native.Nat.{_-_, _≤_}
 use lib.ListN.{length}
 use borrow.Author.Needs.{needs}
-use Rattle.cases.proofs.print_words.Statement.{statement}
-use Rattle.cases.proofs.print_words.Tie as tie
+use Rattle.cases.proofs.vectors.print_words.Statement.{statement}
+use Rattle.cases.proofs.vectors.print_words.Tie as tie
 
 abbrev Inv-loop : tie.InvT-loop
 Inv-loop words i₀ t3 t4 i = i ≤ length words

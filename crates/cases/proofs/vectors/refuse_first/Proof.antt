@@ -2,8 +2,8 @@
 use mathlib.Core.Path.{sym}
 use borrow.Author.Needs.{needs}
 use lib.Seq.{length-take-le}
-use Rattle.cases.proofs.refuse_first.Statement.{statement}
-use Rattle.cases.proofs.refuse_first.Tie as tie
+use Rattle.cases.proofs.vectors.refuse_first.Statement.{statement}
+use Rattle.cases.proofs.vectors.refuse_first.Tie as tie
 
 array-borrow-prefix-words : tie.Need-array-borrow-prefix-words
 array-borrow-prefix-words c = search needs

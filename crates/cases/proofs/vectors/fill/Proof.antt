@@ -4,8 +4,8 @@ use Prim.Native.Nat.{_-_, _≤_}
 use native.Mathlib.Omega.{arith}
 use lib.ListN.{length, length-set}
 use borrow.Author.Needs.{needs}
-use Rattle.cases.proofs.fill.Statement.{statement}
-use Rattle.cases.proofs.fill.Tie as tie
+use Rattle.cases.proofs.vectors.fill.Statement.{statement}
+use Rattle.cases.proofs.vectors.fill.Tie as tie
 
 abbrev Inv-loop : tie.InvT-loop
 Inv-loop words₀ word i₀ words i = (i ≤ length words) × (length words ≡ length words₀)

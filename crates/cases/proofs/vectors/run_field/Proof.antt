@@ -3,8 +3,8 @@ use mathlib.Core.Path.{_≡_}
 use Prim.Native.Nat.{_-_, _≤_}
 use lib.ListN.{length}
 use borrow.Author.Needs.{needs}
-use Rattle.cases.proofs.run_field.Statement.{statement}
-use Rattle.cases.proofs.run_field.Tie as tie
+use Rattle.cases.proofs.vectors.run_field.Statement.{statement}
+use Rattle.cases.proofs.vectors.run_field.Tie as tie
 
 abbrev Inv-loop : tie.InvT-loop
 Inv-loop field words₀ seed₀ number₀ words seed number = (number ≤ 8) × (length words ≡ length words₀)

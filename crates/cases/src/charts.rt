@@ -1,0 +1,146 @@
+// The chart cases of the request. Each runs a layer of one map channel and one output channel, or asks the planner.
+ghost use Prim.Native.Nat.{_≤_};
+ghost use lib.ListN.{length};
+use crate::print;
+use layer::planner::plan;
+use layer::shape::Layer;
+
+// A layer of one channel each, not cropped.
+fn whole(
+    kind: usize,
+    field: usize,
+    height: usize,
+    width: usize,
+    side: usize,
+    stride: usize,
+    padding: usize,
+    peak: usize,
+    rows: usize,
+    columns: usize,
+) -> Layer {
+    Layer {
+        kind: kind,
+        field: field,
+        inputs: 1,
+        outputs: 1,
+        height: height,
+        width: width,
+        side: side,
+        stride: stride,
+        padding: padding,
+        peak: peak,
+        top: 0,
+        left: 0,
+        rows: rows,
+        columns: columns,
+    }
+}
+
+// The number of the case, the answer of a run, and the outputs where it is accepted.
+fn run_case(number: u64, layer: Layer, map: &[i16], kernel: &[i16], output: &mut [i32])
+    requires { ⌜ length (now output) ≤ 1024 ⌝ }
+{
+    let mut scratch = [0u64; 12288];
+    let progress = engine::run(layer, map, kernel, output, &mut scratch);
+    print::number(b"case", number);
+    print::number(b"code", progress.code as u64);
+    print::number(b"tiles", progress.count as u64);
+    print::end_line();
+    if progress.code == 0 && 0 < layer.columns {
+        print::rows(output, layer.columns);
+    }
+}
+
+// Cases 1 to 4 and 6: X, Y and G.
+fn small_charts() {
+    let x = [1i16, 2, 3, 4, 5, 6, 7, 8, 9];
+    let y = [1i16, 2, 3, 4];
+    let g = [1i16, 2, 3, 4];
+    let difference = [1i16, 0, 0, -1];
+    let first = whole(0, 4, 3, 3, 2, 1, 0, 9, 2, 2);
+    let mut one = [0i32; 1];
+    let mut four = [0i32; 4];
+    let mut again = [0i32; 4];
+    let mut nine = [0i32; 9];
+    let mut sixteen = [0i32; 16];
+    run_case(1, first, &x, &g, &mut four);
+    run_case(2, whole(1, 4, 2, 2, 2, 2, 0, 4, 4, 4), &y, &g, &mut sixteen);
+    run_case(3, whole(1, 4, 2, 2, 2, 1, 0, 4, 3, 3), &y, &g, &mut nine);
+    run_case(4, whole(1, 4, 2, 2, 2, 1, 1, 4, 1, 1), &y, &g, &mut one);
+    run_case(6, first, &x, &difference, &mut again);
+}
+
+// A single value and a single weight in F_4.
+fn single(number: u64, peak: usize, value: i16, weight: i16) {
+    let layer = whole(0, 4, 1, 1, 1, 1, 0, peak, 1, 1);
+    let mut output = [0i32; 1];
+    run_case(number, layer, &[value], &[weight], &mut output);
+}
+
+// Case 9: four values and weights in F_5, of which the third weight is given.
+fn wide(weight: i16) {
+    let layer = whole(0, 5, 2, 2, 2, 1, 0, 32767, 1, 1);
+    let map = [32767i16; 4];
+    let kernel = [32767, 32767, weight, 0];
+    let mut output = [0i32; 1];
+    run_case(9, layer, &map, &kernel, &mut output);
+}
+
+// Cases 7 to 9: loads at the limit and above it.
+fn loads() {
+    single(7, 16384, 16384, 2);
+    single(7, 16384, 16384, -2);
+    single(8, 10923, 10922, 3);
+    single(8, 10922, 10922, 3);
+    wide(4);
+    wide(5);
+}
+
+// The number of the case and the planner's answer.
+fn plan_case(number: u64, layer: Layer) {
+    let figures = plan(layer);
+    print::number(b"case", number);
+    print::number(b"code", figures.code as u64);
+    print::number(b"tiles", figures.tiles as u64);
+    print::end_line();
+}
+
+// Cases 10 and 11, and the heights of case 13.
+fn plans() {
+    plan_case(10, whole(1, 4, 1, 1, 3, 1, 2, 1, 1, 1));
+    plan_case(11, whole(0, 4, 32, 32, 3, 1, 0, 1, 30, 30));
+    plan_case(11, whole(0, 4, 33, 32, 3, 1, 0, 1, 31, 30));
+    plan_case(13, whole(0, 4, 513, 512, 1, 1, 0, 1, 513, 512));
+    plan_case(13, whole(0, 4, 512, 512, 1, 1, 0, 1, 512, 512));
+}
+
+// Case 13: −32,768 under a peak. Whether it is answered with 15.
+fn is_beyond(peak: usize) -> bool {
+    let mut one = [0i32; 1];
+    let mut scratch = [0u64; 3072];
+    let layer = whole(0, 4, 1, 1, 1, 1, 0, peak, 1, 1);
+    let progress = engine::run(layer, &[-32768i16], &[0i16], &mut one, &mut scratch);
+    progress.code == 15
+}
+
+// The same under every peak: how many are.
+fn peaks() {
+    let mut refused: u64 = 0;
+    let mut peak = 1;
+    while peak <= 32767 {
+        if is_beyond(peak) {
+            refused += 1;
+        }
+        peak += 1;
+    }
+    print::number(b"case", 13);
+    print::number(b"refused", refused);
+    print::end_line();
+}
+
+pub fn run() {
+    small_charts();
+    loads();
+    plans();
+    peaks();
+}
