@@ -1,5 +1,8 @@
 //! Direct sums and rules, written from the request's formulas and independent of the engine, and what its tests share.
 
+pub mod bench;
+pub mod bench_input;
+pub mod bench_program;
 pub mod call;
 pub mod cases;
 pub mod checked;
@@ -10,6 +13,7 @@ pub mod engine;
 pub mod example;
 pub mod layer;
 pub mod list;
+pub mod quick;
 pub mod random;
 pub mod rules;
 pub mod transform;

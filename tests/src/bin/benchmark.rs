@@ -1,0 +1,175 @@
+//! Times of the engine beside those of the direct sums, as a table: the shortest of several, and instructions for a tile
+//! where valgrind is found. Nothing is asserted of a time.
+
+use std::process::{Command, Output};
+use std::time::{Duration, Instant};
+use wemsteky_tests::call::{Buffers, Call};
+use wemsteky_tests::layer::{Layer, CONV, TCONV};
+use wemsteky_tests::quick::quick_sums;
+use wemsteky_tests::random::Random;
+use wemsteky_tests::transform::points;
+use wemsteky_tests::{draw, engine};
+
+/// Rounds of each layer: so many at least, then more until a time has passed.
+const LEAST_ROUNDS: usize = 7;
+const MOST_ROUNDS: usize = 2_000;
+const TIME: Duration = Duration::from_millis(1_000);
+
+/// Tiles of the call whose instructions are counted.
+const COUNTED_TILES: usize = 4;
+
+/// The hidden first argument: a layer's number and a budget follow, and one call is made.
+const ONE_CALL: &str = "one-call";
+
+/// A square map, no padding, not cropped.
+fn layer(
+    kind: usize,
+    field: usize,
+    (inputs, outputs): (usize, usize),
+    length: usize,
+    side: usize,
+    stride: usize,
+) -> Layer {
+    Layer::of([kind, field, inputs, outputs, length, length, side, stride, 0, 100, 0, 0, 0, 0]).uncropped()
+}
+
+/// One full tile of each side, many channels, strides, then maps of the greatest size.
+fn layers() -> Vec<Layer> {
+    let mut layers = Vec::new();
+    for field in [4, 5] {
+        let full = points(field);
+        layers.extend([3, 5, 7, 11].map(|side| layer(CONV, field, (4, 1), full, side, 1)));
+        layers.extend([3, 7].map(|side| layer(CONV, field, (16, 16), full, side, 1)));
+        layers.extend([5, 11].map(|side| layer(CONV, field, (4, 1), 128, side, 2)));
+        layers.extend(
+            [(4, 2), (11, 2), (8, 4), (11, 4)].map(|(side, stride)| layer(TCONV, field, (4, 1), 64, side, stride)),
+        );
+        for inputs in [1, 4] {
+            layers.extend([3, 5, 7, 11].map(|side| layer(CONV, field, (inputs, 1), 512, side, 1)));
+        }
+    }
+    layers
+}
+
+/// A run of a layer, always the same, and its buffers.
+fn drawn(number: usize) -> (Call, Buffers) {
+    let mut random = Random::new("benchmark", number);
+    let call = draw::call(&mut random, layers()[number]);
+    let buffers = draw::buffers(&mut random, &call);
+    (call, buffers)
+}
+
+/// A job call from tile 0.
+fn advance(call: &Call, budget: usize, buffers: &mut Buffers) {
+    let (output, scratch) = (buffers.output.lend(call.output_length), buffers.scratch.lend(call.scratch_length));
+    let answer = engine::job(&call.layer.numbers(), (0, budget), (&call.map, &call.kernel), output, scratch);
+    assert_eq!(answer.number, 0, "{:?} is refused", call.layer);
+}
+
+/// The shortest times of some routines in microseconds. They take turns, so that other work of the machine falls on all
+/// of them.
+fn shortest<const N: usize>(mut routines: [&mut dyn FnMut(); N]) -> [f64; N] {
+    let mut shortest = [f64::INFINITY; N];
+    let start = Instant::now();
+    let mut rounds = 0;
+    while rounds < LEAST_ROUNDS || rounds < MOST_ROUNDS && start.elapsed() < TIME {
+        for (routine, shortest) in routines.iter_mut().zip(&mut shortest) {
+            let start = Instant::now();
+            routine();
+            *shortest = shortest.min(start.elapsed().as_secs_f64() * 1e6);
+        }
+        rounds += 1;
+    }
+    shortest
+}
+
+/// What valgrind says of one call of this program, or nothing where there is no valgrind.
+fn counted(number: usize, budget: usize) -> Option<Output> {
+    let program = std::env::current_exe().expect("the program knows its own file");
+    let mut command = Command::new("valgrind");
+    command.args(["--tool=callgrind", "--callgrind-out-file=/dev/null"]).arg(program);
+    command.args([ONE_CALL, &number.to_string(), &budget.to_string()]).output().ok()
+}
+
+/// The number after the word Collected.
+fn instructions(number: usize, budget: usize) -> Option<f64> {
+    let said = counted(number, budget)?;
+    let text = String::from_utf8_lossy(&said.stderr);
+    let (_, count) = text.split_once("Collected :")?;
+    count.split_whitespace().next()?.parse().ok()
+}
+
+/// Instructions for a tile: those of a call of some tiles less those of a call of none.
+fn tile_instructions(number: usize, total: usize) -> Option<f64> {
+    let tiles = total.min(COUNTED_TILES);
+    Some((instructions(number, tiles)? - instructions(number, 0)?) / tiles as f64)
+}
+
+/// The table's columns: title and width.
+const COLUMNS: [(&str, usize); 14] = [
+    ("kind", 5),
+    ("field", 5),
+    ("C", 2),
+    ("M", 2),
+    ("H×W", 7),
+    ("K", 2),
+    ("S", 2),
+    ("engine µs", 9),
+    ("direct sums µs", 14),
+    ("direct / engine", 15),
+    ("tiles", 5),
+    ("ns by M, C, tile", 16),
+    ("no tile µs", 10),
+    ("instructions by tile", 20),
+];
+
+fn line(words: [String; 14]) -> String {
+    let padded = words.iter().zip(COLUMNS).map(|(word, (_, width))| format!("{word:>width$}"));
+    format!("| {} |", padded.collect::<Vec<_>>().join(" | "))
+}
+
+/// Measures a layer; the engine and the direct sums must agree.
+fn measured(number: usize) -> String {
+    let (call, mut buffers) = drawn(number);
+    let (layer, total) = (call.layer, call.layer.tile_total());
+    let (mut output, mut work, mut untouched) = (vec![0; call.output_length], Vec::new(), buffers.clone());
+    let [run, direct, none] = shortest([
+        &mut || advance(&call, total, &mut buffers),
+        &mut || quick_sums(&layer, &call.map, &call.kernel, &mut output, &mut work),
+        &mut || advance(&call, 0, &mut untouched),
+    ]);
+    assert!(buffers.output.words() == output, "the engine and the direct sums differ on {layer:?}");
+    let kind = if layer.kind == CONV { "CONV" } else { "TCONV" };
+    line([
+        kind.to_string(),
+        layer.field.to_string(),
+        layer.inputs.to_string(),
+        layer.outputs.to_string(),
+        format!("{}×{}", layer.height, layer.width),
+        layer.side.to_string(),
+        layer.stride.to_string(),
+        format!("{run:.1}"),
+        format!("{direct:.1}"),
+        format!("{:.2}", direct / run),
+        total.to_string(),
+        format!("{:.0}", run * 1e3 / (layer.inputs * total) as f64),
+        format!("{none:.1}"),
+        tile_instructions(number, total).map_or("-".to_string(), |count| format!("{count:.0}")),
+    ])
+}
+
+fn main() {
+    let arguments: Vec<String> = std::env::args().skip(1).collect();
+    match &arguments[..] {
+        [] => {
+            println!("{}", line(COLUMNS.map(|(title, _)| title.to_string())));
+            println!("{}", line(COLUMNS.map(|(_, width)| "-".repeat(width - 1) + ":")));
+            (0..layers().len()).for_each(|number| println!("{}", measured(number)));
+        }
+        [first, number, budget] if first == ONE_CALL => {
+            let (call, mut buffers) = drawn(number.parse().expect("a layer's number"));
+            advance(&call, budget.parse().expect("a budget"), &mut buffers);
+        }
+        _ => eprintln!("benchmark takes no arguments"),
+    }
+}
