@@ -54,10 +54,17 @@ pub fn plan(layer: &[usize; 14]) -> (usize, [usize; 4]) {
     (number, figures)
 }
 
-pub fn run(layer: &[usize; 14], map: &[i16], kernel: &[i16], output: &mut [i32], scratch: &mut [u64]) -> Answer {
+/// The answer of a call that returns a number and writes three figures.
+fn answer(call: impl FnOnce(*mut usize) -> usize) -> Answer {
     let mut figures = [UNWRITTEN; 3];
+    let number = call(figures.as_mut_ptr());
+    let [count, next, done] = figures;
+    Answer { number, count, next, done }
+}
+
+pub fn run(layer: &[usize; 14], map: &[i16], kernel: &[i16], output: &mut [i32], scratch: &mut [u64]) -> Answer {
     // Safety: every pointer is of a slice of the length beside it and is not null; borrowed slices do not overlap.
-    let number = unsafe {
+    answer(|figures| unsafe {
         c::wemsteky_run(
             layer.as_ptr(),
             map.as_ptr(),
@@ -68,11 +75,9 @@ pub fn run(layer: &[usize; 14], map: &[i16], kernel: &[i16], output: &mut [i32],
             output.len(),
             scratch.as_mut_ptr(),
             scratch.len(),
-            figures.as_mut_ptr(),
+            figures,
         )
-    };
-    let [count, next, done] = figures;
-    Answer { number, count, next, done }
+    })
 }
 
 pub fn job(
@@ -82,9 +87,8 @@ pub fn job(
     output: &mut [i32],
     scratch: &mut [u64],
 ) -> Answer {
-    let mut figures = [UNWRITTEN; 3];
     // Safety: as in `run`.
-    let number = unsafe {
+    answer(|figures| unsafe {
         c::wemsteky_job(
             layer.as_ptr(),
             next,
@@ -97,11 +101,9 @@ pub fn job(
             output.len(),
             scratch.as_mut_ptr(),
             scratch.len(),
-            figures.as_mut_ptr(),
+            figures,
         )
-    };
-    let [count, next, done] = figures;
-    Answer { number, count, next, done }
+    })
 }
 
 pub fn transform(field: usize, words: &mut [u64]) -> usize {

@@ -5,7 +5,7 @@ use wemsteky_tests::call::Call;
 use wemsteky_tests::damage::breakable_layer;
 use wemsteky_tests::direct::direct_sums;
 use wemsteky_tests::draw;
-use wemsteky_tests::layer::{CONV, TCONV};
+use wemsteky_tests::for_kinds_and_fields;
 use wemsteky_tests::list::List;
 use wemsteky_tests::random::{seed, Random};
 
@@ -49,25 +49,7 @@ fn to_the_end(test: &'static str, kind: usize, field: usize) {
     );
 }
 
-#[test]
-fn conv_in_field_4() {
-    to_the_end("jobs, conv in field 4", CONV, 4);
-}
-
-#[test]
-fn conv_in_field_5() {
-    to_the_end("jobs, conv in field 5", CONV, 5);
-}
-
-#[test]
-fn tconv_in_field_4() {
-    to_the_end("jobs, tconv in field 4", TCONV, 4);
-}
-
-#[test]
-fn tconv_in_field_5() {
-    to_the_end("jobs, tconv in field 5", TCONV, 5);
-}
+for_kinds_and_fields!(to_the_end, "jobs");
 
 /// Each call finishes its tiles from the map and kernel lent in it, from whatever index it is given.
 #[test]

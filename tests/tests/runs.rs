@@ -6,7 +6,7 @@ use wemsteky_tests::direct::direct_sums;
 use wemsteky_tests::layer::{Layer, CONV, TCONV};
 use wemsteky_tests::random::{seed, Random};
 use wemsteky_tests::rules::{load, load_limit};
-use wemsteky_tests::{checked, draw};
+use wemsteky_tests::{checked, draw, for_kinds_and_fields};
 
 /// Layers for each window of a kind and field.
 const LAYERS: usize = 8;
@@ -40,25 +40,7 @@ fn every_window(test: &'static str, kind: usize, field: usize) {
     }
 }
 
-#[test]
-fn conv_in_field_4() {
-    every_window("runs, conv in field 4", CONV, 4);
-}
-
-#[test]
-fn conv_in_field_5() {
-    every_window("runs, conv in field 5", CONV, 5);
-}
-
-#[test]
-fn tconv_in_field_4() {
-    every_window("runs, tconv in field 4", TCONV, 4);
-}
-
-#[test]
-fn tconv_in_field_5() {
-    every_window("runs, tconv in field 5", TCONV, 5);
-}
+for_kinds_and_fields!(every_window, "runs");
 
 /// Maps of up to 512 by 512, the first of them of the greatest size.
 fn large_maps(test: &'static str, kind: usize) {

@@ -1,5 +1,5 @@
 // The text of the bench program: reading its input, writing its lines.
 pub mod answer;
 pub mod lines;
-pub mod number;
-pub mod words;
+mod number;
+mod words;

@@ -87,7 +87,7 @@ pub fn put_rows(lines: &mut [u8], at: usize, values: &[i32], width: usize) -> us
 }
 
 // A word and a number on a line of their own.
-pub fn put_numbered(lines: &mut [u8], at: usize, word: &[u8], n: usize) -> usize
+pub(crate) fn put_numbered(lines: &mut [u8], at: usize, word: &[u8], n: usize) -> usize
     requires { ⌜ at + length (now word) + 22 ≤ length (now lines) ⌝ }
     ensures { λ r. ⌜ Appended at (numbered (now (word .entry)) n) (now (lines .entry)) (now (lines .exit)) r ⌝ }
 {
@@ -98,7 +98,7 @@ pub fn put_numbered(lines: &mut [u8], at: usize, word: &[u8], n: usize) -> usize
 }
 
 // The line of an input that cannot be read.
-pub fn put_unreadable(lines: &mut [u8], at: usize) -> usize
+pub(crate) fn put_unreadable(lines: &mut [u8], at: usize) -> usize
     requires { ⌜ at + 11 ≤ length (now lines) ⌝ }
     ensures { λ r. ⌜ Appended at unreadable (now (lines .entry)) (now (lines .exit)) r ⌝ }
 {

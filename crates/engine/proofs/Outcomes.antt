@@ -11,12 +11,12 @@ use Rattle.algebra.specs.PlacesLaws.{length-table}
 use Rattle.fermat.specs.Rules.{outcome}
 use Rattle.fermat.specs.RulesLaws.{outcome-made, outcome-lent}
 use Rattle.layer.specs.declared.shape.Layer.{Layer}
-use Rattle.layer.specs.Shape.{tileTotal}
+use Rattle.layer.specs.Shape.{scratchWords, tileTotal}
 use Rattle.layer.specs.Checks.{planCode, figures, planOf}
 use Rattle.layer.specs.ChecksLaws.{job-callable}
 use Rattle.engine.specs.declared.job.Job.{Job}
 use Rattle.engine.specs.declared.job.Progress.{Progress}
-use Rattle.engine.specs.Call.{startOf, countOf, accepted, refused, finished, cleared, scratchWords, callCode, Called}
+use Rattle.engine.specs.Call.{startOf, countOf, accepted, refused, finished, cleared, callCode, Called}
 use Rattle.engine.specs.FinishedLaws.{length-finished}
 
 module _ (job : Job) (budget : ℕ) (map kernel output : List ℤ) (scratch : List ℕ) where

@@ -2,14 +2,14 @@
 use mathlib.Core.Path.{_≡_}
 use mathlib.Core.Bool.{false, _&&_, cond}
 use mathlib.Core.List.{List}
-use Prim.Native.Nat.{ℕ, _+_, _*_, _-_, min}
+use Prim.Native.Nat.{ℕ, _+_, _-_, min}
 use lib.Dec.{leb, ltb, eqb}
 use lib.IntN.{ℤ, pos}
 use lib.ListN.{length, getD}
 use Rattle.algebra.specs.Places.{table}
 use Rattle.fermat.specs.Rules.{outcome}
 use Rattle.layer.specs.declared.shape.Layer.{Layer}
-use Rattle.layer.specs.Shape.{transformLength, tileTotal, tileOf}
+use Rattle.layer.specs.Shape.{scratchWords, tileTotal, tileOf}
 use Rattle.layer.specs.Direct.{directAt}
 use Rattle.layer.specs.Checks.{jobCode}
 use Rattle.engine.specs.declared.job.Job.{Job}
@@ -48,10 +48,6 @@ finished l map kernel from to output =
 -- the first `count` words 0, later ones as lent
 unfoldable pub cleared : (count : ℕ) → List ℕ → List ℕ
 cleared count words = table (length words) (λ i. cond (ltb i count) 0 (getD words i 0))
-
--- 3N²
-abbrev pub scratchWords : Layer → ℕ
-scratchWords l = 3 * (transformLength l * transformLength l)
 
 -- ---- the call
 

@@ -6,10 +6,10 @@ use layer::shape::Layer;
 ghost use Rattle.layer.specs.Shape.{tileTotal};
 ghost use Rattle.engine.specs.Call.{startOf, Called};
 
-pub mod checks;
+mod checks;
 pub mod job;
 pub mod pair;
-pub mod tiles;
+mod tiles;
 
 // A whole run: the job from tile 0 with the total as its budget. A refused plan has the total 0, and the job refuses it again.
 pub fn run(

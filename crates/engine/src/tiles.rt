@@ -7,10 +7,10 @@ ghost use mathlib.Core.Bool.{true};
 ghost use Prim.Native.Nat.{_-_, _≤_, _<_};
 ghost use lib.ListN.{length};
 ghost use Rattle.algebra.specs.Places.{Changed};
-ghost use Rattle.layer.specs.Shape.{tileTotal};
+ghost use Rattle.layer.specs.Shape.{scratchWords, tileTotal};
 ghost use Rattle.layer.specs.ChecksLaws.{Planned, Callable};
 ghost use Rattle.layer.specs.TileLaws.{tileChannel};
-ghost use Rattle.engine.specs.Call.{finished, scratchWords};
+ghost use Rattle.engine.specs.Call.{finished};
 
 // Whether scratch holds the transform of the kernel that the tile needs, as the tile before it left it: that was finished in the same call, it
 // is of the same output channel, and the layer has one map channel.

@@ -5,16 +5,16 @@ ghost use Rattle.fermat.specs.Transform.{transformIn, inverseIn};
 ghost use Rattle.fermat.specs.Answer.{transformCode, transformed, inverted, row, Accepted};
 
 mod butterfly;
-pub mod corner;
+mod corner;
 pub mod field;
-pub mod halving;
+mod halving;
 pub mod number;
-pub mod order;
+mod order;
 pub mod product;
 pub mod residues;
 pub mod rules;
 pub mod spectrum;
-pub mod tile;
+mod tile;
 
 // The first of the rules 2, 18 and 19 that is broken, or 0.
 fn transform_code(field: usize, words: &[u64]) -> usize

@@ -82,7 +82,7 @@ fn settled(field: usize, v: u64) -> u64
     settled_5(v)
 }
 
-pub fn settle(words: &mut [u64], field: usize)
+pub(crate) fn settle(words: &mut [u64], field: usize)
     requires { ⌜ (4 ≤ field) × (field ≤ 5) ⌝ }
     ensures { λ _. ⌜ ((i : ℕ) → i < length (now (words .entry)) → Settled field (getD (now (words .entry)) i 0) (getD (now (words .exit)) i 0)) ⌝ }
 {
@@ -108,7 +108,7 @@ fn finished(v: u64, bits: u32, rest: u32) -> u64
 }
 
 // Each word that the inverse of a tile leaves as a residue, with half of 2^bits added.
-pub fn finish(words: &mut [u64], field: usize)
+pub(crate) fn finish(words: &mut [u64], field: usize)
     requires { ⌜ (4 ≤ field) × (field ≤ 5) ⌝ }
     requires { ⌜ ((i : ℕ) → i < length (now words) → getD (now words) i 0 ≤ inverseMost field) ⌝ }
     ensures { λ _. ⌜ ((i : ℕ) → i < length (now (words .entry)) → getD (now (words .exit)) i 0 ≡ finishedOf field (getD (now (words .entry)) i 0)) ⌝ }

@@ -20,7 +20,7 @@ pub fn all_below(words: &[u64], m: u64) -> bool
 }
 
 // Each word is multiplied by s and becomes its remainder by m. The product of s and a remainder fits a word.
-pub fn scale(words: &mut [u64], s: u64, m: u64)
+pub(crate) fn scale(words: &mut [u64], s: u64, m: u64)
     requires { ⌜ (0 < m) × (m ≤ 4294967297) × (s < 4294967296) ⌝ }
     ensures { λ _. ⌜ ((i : ℕ) → i < length (now (words .entry)) → getD (now (words .exit)) i 0 ≡ (s * getD (now (words .entry)) i 0) % m) ⌝ }
 {

@@ -12,7 +12,7 @@ use Rattle.fermat.specs.Transform.{powerSum, transformAt}
 use Rattle.fermat.specs.Rules.{inside}
 use Rattle.fermat.specs.Answer.{transformCode, row, answered, transformed}
 use Rattle.layer.specs.declared.shape.Layer.{Layer}
-use Rattle.layer.specs.Shape.{outputCount, convSize, tconvSize, fullHeight, fullWidth, transformLength, tilesAcross, tileTotal}
+use Rattle.layer.specs.Shape.{outputCount, convSize, tconvSize, fullHeight, fullWidth, scratchWords, tilesAcross, tileTotal}
 use Rattle.layer.specs.Direct.{cell, conv, tconv, fullAt, directAt, productSum}
 use Rattle.layer.specs.Load.{load, loadsFit, withinPeak}
 use Rattle.layer.specs.Checks.{cropFits, planCode, runCode}
@@ -44,7 +44,7 @@ equals (x ∷ xs) (y ∷ ys) = equal x y && equals xs ys
 
 -- what a run answers with, given an output of the right length and just enough scratch
 abbrev code : Layer → (map kernel : List ℤ) → ℕ
-code l map kernel = runCode l map kernel (outputCount l) (3 * (transformLength l * transformLength l))
+code l map kernel = runCode l map kernel (outputCount l) (scratchWords l)
 
 -- the full output of a layer against other values of its shape
 abbrev against : Layer → (map kernel others : List ℤ) → ℤ

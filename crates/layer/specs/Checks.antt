@@ -8,7 +8,7 @@ use lib.ListN.{length}
 use Rattle.fermat.specs.Rules.{Rule, rule, firstBroken, inside}
 use Rattle.layer.specs.declared.shape.Layer.{Layer}
 use Rattle.layer.specs.declared.shape.Plan.{Plan}
-use Rattle.layer.specs.Shape.{isConv, mapCount, kernelCount, outputCount, tconvSize, fullHeight, fullWidth, transformLength, tileTotal}
+use Rattle.layer.specs.Shape.{isConv, mapCount, kernelCount, outputCount, tconvSize, fullHeight, fullWidth, scratchWords, tileTotal}
 use Rattle.layer.specs.Load.{loadsFit, withinPeak}
 
 -- 8: in CONV, H + 2P is not below K; in TCONV, E is not below 1
@@ -45,7 +45,7 @@ callRules l map kernel output scratch =
     rule 10 (eqb (length map) (mapCount l))
     ∷ rule 11 (eqb (length kernel) (kernelCount l))
     ∷ rule 12 (eqb output (outputCount l))
-    ∷ rule 13 (leb (3 * (transformLength l * transformLength l)) scratch)
+    ∷ rule 13 (leb (scratchWords l) scratch)
     ∷ rule 14 (inside 1 32767 (l .peak))
     ∷ rule 15 (withinPeak (l .peak) map)
     ∷ rule 16 (loadsFit l kernel)
@@ -74,7 +74,7 @@ figures zero l = record {
   height = fullHeight l;
   width = fullWidth l;
   tiles = tileTotal l;
-  scratch = 3 * (transformLength l * transformLength l);
+  scratch = scratchWords l;
 }
 figures (suc code) l = record { code = suc code; height = 0; width = 0; tiles = 0; scratch = 0 }
 

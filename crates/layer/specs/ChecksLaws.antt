@@ -13,7 +13,7 @@ use borrow.Author.Tests.{leb-true, eqb-true, eq-eqb, ne-eqb}
 use Rattle.fermat.specs.Rules.{Rule, rule, firstBroken}
 use Rattle.fermat.specs.RulesLaws.{Hold, numbered, none-broken, both-true, inside-low, inside-high}
 use Rattle.layer.specs.declared.shape.Layer.{Layer}
-use Rattle.layer.specs.Shape.{isConv, mapCount, kernelCount, outputCount, convSize, tconvSize, fullSize, fullHeight, fullWidth, transformLength, tileTotal}
+use Rattle.layer.specs.Shape.{isConv, mapCount, kernelCount, outputCount, convSize, tconvSize, fullSize, fullHeight, fullWidth, scratchWords, tileTotal}
 use Rattle.layer.specs.Load.{loadsFit, withinPeak}
 use Rattle.layer.specs.Checks.{hasOutput, cropFits, shapeRules, outputRules, callRules, jobRules, planCode, runCode, jobCode}
 
@@ -175,7 +175,7 @@ module _ (l : Layer) (map kernel : List ℤ) (output scratch : ℕ) where
     pub map-length : length map ≡ mapCount l
     pub kernel-length : length kernel ≡ kernelCount l
     pub output-length : output ≡ outputCount l
-    pub scratch-low : 3 * (transformLength l * transformLength l) ≤ scratch
+    pub scratch-low : scratchWords l ≤ scratch
     pub peak-low : 1 ≤ l .peak
     pub peak-high : l .peak ≤ 32767
     pub values : withinPeak (l .peak) map ≡ true

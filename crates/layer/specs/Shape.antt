@@ -49,6 +49,10 @@ fullWidth l = fullSize l (l .width)
 abbrev pub transformLength : Layer → ℕ
 transformLength l = points (l .field)
 
+-- 3N² words of scratch
+abbrev pub scratchWords : Layer → ℕ
+scratchWords l = 3 * (transformLength l * transformLength l)
+
 -- L = N − K + 1: a tile holds L by L places of the stride-1 grid
 abbrev pub tileSide : Layer → ℕ
 tileSide l = transformLength l - l .side + 1

@@ -47,7 +47,7 @@ fn size_sum(run: &[i16]) -> u64
 }
 
 // The load of output channel m. The largest, 64 × 121 × 32,768 × 32,767, fits 64 bits.
-pub fn channel_load(layer: Layer, kernel: &[i16], m: usize) -> u64
+fn channel_load(layer: Layer, kernel: &[i16], m: usize) -> u64
     requires { ⌜ Weighted layer (now kernel) × (m < layer .outputs) ⌝ }
     ensures { λ r. ⌜ r ≡ load layer (now (kernel .entry)) m ⌝ }
 {

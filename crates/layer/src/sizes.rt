@@ -3,7 +3,7 @@ use crate::shape::Layer;
 use fermat::field;
 ghost use mathlib.Core.Path.{_≡_};
 ghost use Prim.Native.Nat.{_+_, _*_, _^_, _≤_, _<_};
-ghost use Rattle.layer.specs.Shape.{mapCount, kernelCount, outputCount, fullSize, transformLength, tileSide, gridStep, span, tilesAcross, tileTotal};
+ghost use Rattle.layer.specs.Shape.{mapCount, kernelCount, outputCount, fullSize, scratchWords, tileSide, gridStep, span, tilesAcross, tileTotal};
 ghost use Rattle.layer.specs.ChecksLaws.{InRange, Outputs, Planned};
 ghost use Rattle.layer.specs.TileSizes.{Wanted};
 
@@ -32,7 +32,7 @@ pub fn output_count(layer: Layer) -> usize
 }
 
 // E of a map's height, F of its width.
-pub fn full_size(layer: Layer, size: usize) -> usize
+pub(crate) fn full_size(layer: Layer, size: usize) -> usize
     requires { ⌜ Outputs layer size ⌝ }
     ensures { λ r. ⌜ r ≡ fullSize layer size ⌝ }
 {
@@ -46,7 +46,7 @@ pub fn full_size(layer: Layer, size: usize) -> usize
 // 3N².
 pub fn scratch_words(layer: Layer) -> usize
     requires { ⌜ InRange layer ⌝ }
-    ensures { λ r. ⌜ r ≡ 3 * (transformLength layer * transformLength layer) ⌝ }
+    ensures { λ r. ⌜ r ≡ scratchWords layer ⌝ }
 {
     let n = field::points_of(layer.field);
     3 * (n * n)
@@ -68,7 +68,7 @@ pub fn grid_step(layer: Layer) -> usize
 }
 
 // R of the rows kept, Q of the columns kept.
-pub fn span_of(layer: Layer, count: usize) -> usize
+fn span_of(layer: Layer, count: usize) -> usize
     requires { ⌜ Wanted layer count ⌝ }
     ensures { λ r. ⌜ r ≡ span layer count ⌝ }
 {

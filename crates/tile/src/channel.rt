@@ -17,7 +17,7 @@ ghost use Rattle.layer.specs.ChecksLaws.{InRange};
 ghost use Rattle.tile.specs.Channel.{area, KernelReady, KernelKept, WindowReady, Lent, Within, Adds};
 
 // The transform of a plane of the kernel. The words are two parts: it comes out in the first, and the second is used on the way.
-pub fn kernel_spectrum(words: &mut [u64], layer: Layer, kernel: &[i16], plane: usize)
+fn kernel_spectrum(words: &mut [u64], layer: Layer, kernel: &[i16], plane: usize)
     requires { ⌜ InRange layer × (length (now words) ≡ 2 * area layer) ⌝ }
     requires { ⌜ (length (now kernel) ≡ layer .outputs * layer .inputs * (layer .side * layer .side)) × (plane < layer .outputs * layer .inputs) ⌝ }
     ensures { λ _. ⌜ KernelReady layer (now (kernel .entry)) plane 0 (now (words .exit)) ⌝ }
@@ -42,7 +42,7 @@ fn ready_kernel(words: &mut [u64], layer: Layer, kernel: &[i16], plane: usize, k
 }
 
 // The transform of the window of map channel c that begins at that row and column.
-pub fn window_spectrum(
+fn window_spectrum(
     words: &mut [u64],
     layer: Layer,
     map: &[i16],

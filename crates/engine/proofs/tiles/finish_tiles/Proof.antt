@@ -6,11 +6,11 @@ use borrow.Author.Needs.{needs}
 use denote.Ref.{now}
 use Rattle.algebra.specs.Places.{Changed}
 use Rattle.algebra.specs.PlacesLaws.{changed-nothing, changed-again}
+use Rattle.layer.specs.Shape.{scratchWords}
 use Rattle.layer.specs.Load.{planeOf}
 use Rattle.layer.specs.ChecksLaws.{planned}
 use Rattle.layer.specs.TileLaws.{tileChannel}
 use Rattle.tile.specs.Channel.{area, KernelReady, KernelKept}
-use Rattle.engine.specs.Call.{scratchWords}
 use Rattle.engine.proofs.TilesWritten.{TilesWritten, no-tile, one-more-tile, written-finished}
 use Rattle.engine.proofs.tiles.finish_tiles.Statement.{statement}
 use Rattle.engine.proofs.tiles.finish_tiles.Tie as tie

@@ -5,9 +5,9 @@ use native.Mathlib.Omega.{arith}
 use lib.ListN.{length}
 use borrow.Author.Needs.{needs}
 use denote.Ref.{now}
-use Rattle.layer.specs.Shape.{tileTotal}
+use Rattle.layer.specs.Shape.{scratchWords, tileTotal}
 use Rattle.layer.specs.ChecksLaws.{Planned, planned, Callable, job-callable}
-use Rattle.engine.specs.Call.{callCode, scratchWords}
+use Rattle.engine.specs.Call.{callCode}
 use Rattle.engine.proofs.Outcomes.{refused-call, accepted-call}
 use Rattle.engine.proofs.Scratch.{changed-cleared}
 use Rattle.engine.proofs.job.Job.advance.Statement.{statement}
