@@ -1,9 +1,9 @@
 -- Three calls in a row, of which the second is lent no map value, are a list of calls with a refused one; where the last is accepted, their
 -- budgets reach the total. Two such lists have equal sums of products. It rests on the laws of lists of calls and on the theorem on two lists.
-use mathlib.Core.Path.{_≡_, refl, ap}
+use mathlib.Core.Path.{_≡_, refl, ap, ap₂, _∙_}
 use mathlib.Core.Bool.{Bool, true}
 use mathlib.Core.List.{List, [], _∷_}
-use Prim.Native.Nat.{ℕ, zero, suc, _+_, _*_, _≤_, _<_}
+use Prim.Native.Nat.{ℕ, zero, suc, _+_, _*_, _≤_, _<_, min}
 use native.Mathlib.Nat.{mul-le-mul}
 use native.Mathlib.Omega.{arith}
 use lib.Dec.{eqb}
@@ -13,15 +13,17 @@ use borrow.Author.Tests.{eqb-true}
 use Rattle.fermat.specs.Rules.{outcome}
 use Rattle.layer.specs.declared.shape.Layer.{Layer}
 use Rattle.layer.specs.Shape.{tileTotal}
-use Rattle.layer.specs.Checks.{planCode, figures, planOf}
+use Rattle.layer.specs.Checks.{planCode, runCode, jobCode, figures, planOf}
 use Rattle.layer.specs.ChecksLaws.{Planned, planned}
 use Rattle.engine.specs.declared.job.Job.{Job}
 use Rattle.engine.specs.declared.job.Progress.{Progress}
 use Rattle.engine.specs.Call.{startOf, Called}
-use Rattle.engine.specs.Calls.{Call, JobCalls, Reaches, CallsMade}
-use Rattle.engine.specs.CallsLaws.{took, calls-callable}
+use Rattle.engine.specs.Calls.{Call, JobCalls, acceptedBudgets, Reaches, CallsMade}
+use Rattle.engine.specs.CallsLaws.{called-code, took, calls-job, calls-callable}
+use Rattle.engine.specs.RunLaws.{index-passes}
 use Rattle.engine.specs.ProductSums.{Paired, SumsAgree}
 use Rattle.engine.specs.ProductSumsLaws.{product-sums}
+use Rattle.engine.proofs.Outcomes.{output-length, scratch-length}
 
 -- a map of an accepted call holds some value
 map-some : (l : Layer) → Planned l → 1 ≤ l .inputs * l .height * l .width
@@ -108,6 +110,22 @@ module _ (l : Layer) (budget : ℕ) (map none kernel : List ℤ) (empty : length
         (refl, refl, (λ e. absurd (broken e)), (refl, refl, (λ e. (refl, refl)), tt)),
       );
     }
+
+    -- the first two calls leave an index that is not above the total, so the last one is answered as a run is
+    abbrev first-two : JobCalls l map kernel
+    first-two = record {
+      first = output-0;
+      calls = call-1 ∷ call-2 ∷ [];
+      chained = (starts, refl, (λ e. (refl, refl)), (refl, refl, (λ e. absurd (broken e)), tt));
+    }
+
+    pub last-code : progress-3 .code ≡ runCode l map kernel (length output-0) (length scratch-0)
+    last-code =
+        let reached : ℕ = min (tileTotal l) (acceptedBudgets (first-two .calls)) in
+        called-code third
+        ∙ ap (λ (j : Job). jobCode (j .layer) (j .next) map kernel (length output-2) (length scratch-2)) (calls-job first-two)
+        ∙ index-passes l reached map kernel (length output-2) (length scratch-2) (omega arith)
+        ∙ ap₂ (runCode l map kernel) (output-length second ∙ output-length first) (scratch-length second ∙ scratch-length first)
 
     last-reaches : progress-3 .code ≡ 0 → Reaches list
     last-reaches e =

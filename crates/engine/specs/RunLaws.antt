@@ -3,7 +3,7 @@
 use mathlib.Core.Path.{_≡_, refl}
 use mathlib.Core.Bool.{true, false}
 use mathlib.Core.List.{List, [], _∷_, _++_}
-use Prim.Native.Nat.{ℕ}
+use Prim.Native.Nat.{ℕ, _≤_}
 use native.Mathlib.Omega.{arith}
 use lib.IntN.{ℤ}
 use lib.ListN.{length}
@@ -51,13 +51,18 @@ module _ {l : Layer} {map kernel output : List ℤ} {scratch : List ℕ} {progre
     pub run-frame : progress .code ≡ 0 → output-left ≡ table (length output) (directAt l map kernel)
     run-frame e = reached (run-list called) (run-reaches e)
 
--- it makes the checks 1 to 16, since no index is below 0
-pub run-code : (l : Layer) (map kernel : List ℤ) (output scratch : ℕ) → jobCode l 0 map kernel output scratch ≡ runCode l map kernel output scratch
+-- a job whose index is not above the total is answered as a run is
+pub index-passes : (l : Layer) (next : ℕ) (map kernel : List ℤ) (output scratch : ℕ) → next ≤ tileTotal l
+    → jobCode l next map kernel output scratch ≡ runCode l map kernel output scratch
 unfolding runCode jobCode
-run-code l map kernel output scratch =
-    rw (le-leb 0 (tileTotal l) (omega arith)) (last-holds 17 (shapeRules l ++ outputRules l ++ callRules l map kernel output scratch))
+index-passes l next map kernel output scratch low =
+    rw (le-leb next (tileTotal l) low) (last-holds 17 (shapeRules l ++ outputRules l ++ callRules l map kernel output scratch))
   where
     last-holds : (last : ℕ) (rules : List Rule) → firstBroken (rules ++ (rule last true ∷ [])) ≡ firstBroken rules
     last-holds last [] = refl
     last-holds last (rule number true ∷ rules) = last-holds last rules
     last-holds last (rule number false ∷ rules) = refl
+
+-- a run makes the checks 1 to 16, since no index is below 0
+pub run-code : (l : Layer) (map kernel : List ℤ) (output scratch : ℕ) → jobCode l 0 map kernel output scratch ≡ runCode l map kernel output scratch
+run-code l map kernel output scratch = index-passes l 0 map kernel output scratch (omega arith)

@@ -3,12 +3,15 @@ use crate::job::Job;
 use layer::planner;
 use layer::shape::Layer;
 ghost use mathlib.Core.Path.{_≡_};
-ghost use mathlib.Core.Bool.{true};
+ghost use mathlib.Core.Bool.{true, _&&_};
+ghost use lib.Dec.{eqb};
+ghost use lib.ListN.{length};
+ghost use Rattle.layer.specs.Checks.{runCode};
 ghost use Rattle.engine.specs.Calls.{CallsMade};
 ghost use Rattle.engine.specs.ProductSums.{Paired, SumsAgree};
 
 // Three calls of a layer's job: one with the budget, one that is lent no map value and thus is refused, one with the total. Whether the last
-// one is accepted.
+// one is accepted, which is whether a run is.
 fn three_calls(
     layer: Layer,
     budget: usize,
@@ -17,6 +20,7 @@ fn three_calls(
     output: &mut [i32],
     scratch: &mut [u64],
 ) -> bool
+    ensures { λ r. ⌜ r ≡ eqb (runCode layer (now (map .entry)) (now (kernel .entry)) (length (now (output .entry))) (length (now (scratch .entry)))) 0 ⌝ }
     ensures { λ r. ⌜ CallsMade layer (now (map .entry)) (now (kernel .entry)) (now (output .entry)) (now (output .exit)) r ⌝ }
 {
     let plan = planner::plan(layer);
@@ -29,7 +33,7 @@ fn three_calls(
     third.code == 0
 }
 
-// Both kinds, with one kernel. Whether both lists reach their totals.
+// Both kinds, with one kernel. Whether both layers are accepted; then both lists reach their totals.
 pub fn both_kinds(
     conv: Layer,
     tconv: Layer,
@@ -41,6 +45,7 @@ pub fn both_kinds(
     v: &mut [i32],
     scratch: &mut [u64],
 ) -> bool
+    ensures { λ r. ⌜ r ≡ eqb (runCode conv (now (x .entry)) (now (kernel .entry)) (length (now (u .entry))) (length (now (scratch .entry)))) 0 && eqb (runCode tconv (now (y .entry)) (now (kernel .entry)) (length (now (v .entry))) (length (now (scratch .entry)))) 0 ⌝ }
     ensures { λ r. ⌜ (Paired conv tconv → r ≡ true → SumsAgree conv (now (x .entry)) (now (y .entry)) (now (u .exit)) (now (v .exit))) ⌝ }
 {
     let forward = three_calls(conv, budget, x, kernel, u, scratch);

@@ -23,8 +23,12 @@ same-length-3 c = search needs
 
 returns : tie.Need-returns
 returns c =
-    let calls = c .before .before .before .before in
-    λ paired done. lists-agree (calls .before .before .before .before .before .before .three-calls .ensures) (calls .three-calls2 .ensures) paired (c .if1 .taken) done
+    let two = c .before .before .before .before in
+    let one = two .before .before .before .before .before .before in (
+      rw (sym (one .three-calls .ensures .0) ∙ c .if1 .taken)
+          (rw (one .three-calls .kept .1 .1 .1 .1 .1 .0) at (two .three-calls2 .ensures .0)),
+      λ paired done. lists-agree (one .three-calls .ensures .1) (two .three-calls2 .ensures .1) paired (c .if1 .taken) done,
+    )
 
 same-length-4 : tie.Need-same-length-4
 same-length-4 c = search needs
@@ -36,7 +40,11 @@ same-length-6 : tie.Need-same-length-6
 same-length-6 c = search needs
 
 returns-2 : tie.Need-returns-2
-returns-2 c = λ paired done. absurd (subst T (sym (sym (c .if1 .left) ∙ done)) tt)
+returns-2 c =
+    let one = c .before .before .before .before .before .before .before .before .before .before in (
+      rw (sym (one .three-calls .ensures .0) ∙ c .if1 .left) (c .if1 .left),
+      λ paired done. absurd (subst T (sym (sym (c .if1 .left) ∙ done)) tt),
+    )
 
 pub both-kinds-spec : {M : Type 1} → statement M
 both-kinds-spec =

@@ -1,9 +1,11 @@
 -- The three calls are a list of calls with a refused one: ThreeCalls says what it comes to.
-use mathlib.Core.Path.{refl, _∙_}
+use mathlib.Core.Path.{refl, ap, _∙_}
+use Prim.Native.Nat.{ℕ}
 use borrow.Author.Needs.{needs}
 use denote.Ref.{now}
+use lib.Dec.{eqb}
 use Rattle.engine.proofs.Outcomes.{output-length, scratch-length}
-use Rattle.engine.proofs.ThreeCalls.{three-calls}
+use Rattle.engine.proofs.ThreeCalls.{last-code, three-calls}
 use Rattle.engine.proofs.pair.three_calls.Statement.{statement}
 use Rattle.engine.proofs.pair.three_calls.Tie as tie
 
@@ -53,9 +55,13 @@ returns c =
     let call = c .before .before .before .before in
     let made = first call .before .before .before in
     let g = made .before .before .before .args in
-    three-calls (g .layer) (g .budget) (now (g .map)) _ (now (g .kernel)) refl
-    (made .new .ensures) (first call .advance .ensures) (second call .advance2 .ensures)
-    (rw (made .before .plan .ensures) at (call .advance3 .ensures))
+    let last = rw (made .before .plan .ensures) at (call .advance3 .ensures) in (
+      ap (λ (code : ℕ). eqb code 0)
+          (last-code (g .layer) (g .budget) (now (g .map)) _ (now (g .kernel)) refl
+          (made .new .ensures) (first call .advance .ensures) (second call .advance2 .ensures) last),
+      three-calls (g .layer) (g .budget) (now (g .map)) _ (now (g .kernel)) refl
+          (made .new .ensures) (first call .advance .ensures) (second call .advance2 .ensures) last,
+    )
 
 pub three-calls-spec : {M : Type 1} → statement M
 three-calls-spec =
