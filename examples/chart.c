@@ -1,4 +1,4 @@
-/* A transposed convolution planned, run tile by tile, and a call that is refused; then a transform there and back. */
+/* A transposed convolution planned, run tile by tile, its outputs as levels, and a call that is refused; then a transform there and back. */
 #include <stdio.h>
 #include <string.h>
 
@@ -12,6 +12,7 @@
 static int16_t map[SIDE * SIDE];
 static int32_t output[CHANNELS * FULL * FULL];
 static uint64_t scratch[SCRATCH];
+static int16_t levels[CHANNELS * FULL * FULL];
 
 static int failed(const char *what, size_t code)
 {
@@ -49,6 +50,10 @@ int main(void)
     if (code != 0) return failed("job", code);
     printf("next tile %zu, done %zu\n", progress[1], progress[2]);
     printf("first %d, last of channel 0 %d, last %d\n", output[0], output[FULL * FULL - 1], output[CHANNELS * FULL * FULL - 1]);
+
+    code = wemsteky_levels(3, 127, output, sizeof output / sizeof *output, levels, sizeof levels / sizeof *levels);
+    if (code != 0) return failed("levels", code);
+    printf("levels %d, %d, %d\n", levels[0], levels[FULL * FULL - 1], levels[CHANNELS * FULL * FULL - 1]);
 
     map[1] = 101; /* beyond the peak */
     printf("refused %zu\n", run_in_budgets(layer, kernel, CHANNELS * 16, progress));

@@ -9,7 +9,7 @@
  *   top left h w: the first row and column kept of the full output, and how many of each
  *
  * Every function accepts any numbers, lengths and values. It returns 0, or the number of the first check that fails; a refused call changes
- * no output, scratch or words.
+ * no output, scratch, words or levels.
  *
  *   1 kind is not 0 or 1                  11 kernel length is not M C K K
  *   2 field is not 4 or 5                 12 output length is not M h w
@@ -21,6 +21,7 @@
  *   8 the full output has no row or no    18 not N words to transform
  *     column                              19 a word not below the field
  *   9 the crop is empty or reaches beyond the full output
+ *  20 the shift outside 0 to 31, the bound outside 1 to 32,767, or not as many levels as outputs
  *
  * A pointer of length 0 may not be null. Buffers may not overlap.
  */
@@ -50,6 +51,10 @@ size_t wemsteky_job(const size_t layer[14], size_t next, size_t budget, const in
 /* Checks 2, 18 and 19, then the transform of N residues at the root 2 (N is 32 in field 4, 64 in field 5), or its inverse. */
 size_t wemsteky_transform(size_t field, uint64_t *words, size_t words_len);
 size_t wemsteky_inverse(size_t field, uint64_t *words, size_t words_len);
+
+/* Check 20, then the level of each output: divided by 2 to the shift, to the nearest whole number, halves going away from zero, then clamped to
+ * -bound and bound. */
+size_t wemsteky_levels(size_t shift, size_t bound, const int32_t *outputs, size_t outputs_len, int16_t *levels, size_t levels_len);
 
 #ifdef __cplusplus
 }

@@ -1,4 +1,4 @@
-//! The five functions of include/wemsteky.h, behind slices.
+//! The six functions of include/wemsteky.h, behind slices.
 
 mod c {
     extern "C" {
@@ -31,6 +31,14 @@ mod c {
         ) -> usize;
         pub fn wemsteky_transform(field: usize, words: *mut u64, words_len: usize) -> usize;
         pub fn wemsteky_inverse(field: usize, words: *mut u64, words_len: usize) -> usize;
+        pub fn wemsteky_levels(
+            shift: usize,
+            bound: usize,
+            outputs: *const i32,
+            outputs_len: usize,
+            levels: *mut i16,
+            levels_len: usize,
+        ) -> usize;
     }
 }
 
@@ -114,4 +122,9 @@ pub fn transform(field: usize, words: &mut [u64]) -> usize {
 pub fn inverse(field: usize, words: &mut [u64]) -> usize {
     // Safety: as in `transform`.
     unsafe { c::wemsteky_inverse(field, words.as_mut_ptr(), words.len()) }
+}
+
+pub fn levels(shift: usize, bound: usize, outputs: &[i32], levels: &mut [i16]) -> usize {
+    // Safety: both pointers are of slices of the lengths beside them and are not null; borrowed slices do not overlap.
+    unsafe { c::wemsteky_levels(shift, bound, outputs.as_ptr(), outputs.len(), levels.as_mut_ptr(), levels.len()) }
 }

@@ -13,6 +13,7 @@ pub mod engine;
 pub mod example;
 pub mod kinds;
 pub mod layer;
+pub mod levels;
 pub mod list;
 pub mod quick;
 pub mod random;

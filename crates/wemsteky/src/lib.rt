@@ -4,10 +4,12 @@ use engine::job::Progress;
 use layer::numbers::layer_of;
 use layer::planner;
 ghost use mathlib.Core.Path.{_≡_};
+ghost use lib.ListN.{length};
 ghost use Rattle.fermat.specs.Answer.{transformCode, transformed, inverted};
 ghost use Rattle.layer.specs.Shape.{tileTotal};
 ghost use Rattle.layer.specs.Numbers.{layerOf};
 ghost use Rattle.layer.specs.Checks.{planOf};
+ghost use Rattle.levels.specs.Answer.{levelsCode, levelsLeft};
 ghost use Rattle.engine.specs.Call.{startOf};
 ghost use Rattle.wemsteky.specs.Figures.{planFigures, progressFigures, Reported};
 
@@ -79,4 +81,17 @@ pub extern "C" fn wemsteky_inverse(field: usize, words: &mut [u64]) -> usize
     ensures { λ r. ⌜ (r ≡ transformCode field (now (words .entry))) × (now (words .exit) ≡ inverted field (now (words .entry))) ⌝ }
 {
     fermat::inverse(field, words)
+}
+
+#[no_mangle]
+pub extern "C" fn wemsteky_levels(
+    shift: usize,
+    bound: usize,
+    outputs: &[i32],
+    levels: &mut [i16],
+) -> usize
+    ensures { λ r. ⌜ r ≡ levelsCode shift bound (length (now (outputs .entry))) (length (now (levels .entry))) ⌝ }
+    ensures { λ _. ⌜ now (levels .exit) ≡ levelsLeft shift bound (now (outputs .entry)) (now (levels .entry)) ⌝ }
+{
+    levels::levels(shift, bound, outputs, levels)
 }

@@ -1,0 +1,63 @@
+-- `size` adds 1 to a value below 0, turns its sign and adds the 1 again without a sign.
+use mathlib.Core.Bool.{true}
+use mathlib.Core.Path.{_≡_}
+use native.Mathlib.Omega.{arith}
+use borrow.Author.Needs.{needs}
+use lib.IntN.{pos}
+use lib.Signed.{ltZ}
+use mir.Facts.{toZ-ofZ, fits-natAbs}
+use mir.Syntax.{w32}
+use Rattle.algebra.specs.SignLaws.{not-below}
+use Rattle.levels.proofs.Signs.{one-more, turned-back, size-below, fits-one-more, fits-turned}
+use Rattle.levels.proofs.value.size.Statement.{statement}
+use Rattle.levels.proofs.value.size.Tie as tie
+
+-- in the first branch the value is below 0
+below : (c : tie.Then1) → ltZ (c .before .args .value) (pos 0) ≡ true
+below c = rw (toZ-ofZ (c .before .fits .value)) at (c .if1 .taken)
+
+add-turned : tie.Need-add-turned
+add-turned c =
+    let f = c .before .fits .value in
+    let z = c .before .args .value in
+    rw (toZ-ofZ f, one-more z (below c)) (fits-one-more z (below c) f)
+
+sub-turned : tie.Need-sub-turned
+sub-turned c =
+    let f = c .before .fits .value in
+    let z = c .before .args .value in
+    rw (toZ-ofZ f, one-more z (below c), toZ-ofZ (fits-one-more z (below c) f), turned-back z (below c)) (fits-turned z (below c) f)
+
+cast-result : tie.Need-cast-result
+cast-result c =
+    let f = c .before .fits .value in
+    let z = c .before .args .value in
+    let e = below c in
+    rw (toZ-ofZ f, one-more z e, toZ-ofZ (fits-one-more z e f), turned-back z e, toZ-ofZ (fits-turned z e f))
+    (tt, fits-natAbs {w = w32} tt (fits-turned z e f))
+
+add-result : tie.Need-add-result
+add-result c =
+    let f = c .before .fits .value in
+    let z = c .before .args .value in
+    let e = below c in
+    rw (toZ-ofZ f, one-more z e, toZ-ofZ (fits-one-more z e f), turned-back z e, toZ-ofZ (fits-turned z e f))
+    (record { fits = omega (arith, f .sfits) })
+
+cast-result-2 : tie.Need-cast-result-2
+cast-result-2 c =
+    let f = c .before .fits .value in
+    rw (toZ-ofZ f) (not-below (c .before .args .value) (rw (toZ-ofZ f) at (c .if1 .left)), fits-natAbs {w = w32} tt f)
+
+returns : tie.Need-returns
+returns c =
+    let f = c .before .fits .value in
+    let z = c .before .args .value in
+    let e = below c in
+    rw (toZ-ofZ f, one-more z e, toZ-ofZ (fits-one-more z e f), turned-back z e, toZ-ofZ (fits-turned z e f)) (size-below z e)
+
+returns-2 : tie.Need-returns-2
+returns-2 c = search needs
+
+pub size-spec : {M : Type 1} → statement M
+size-spec = tie.close (tie.spec add-turned sub-turned cast-result add-result cast-result-2 returns returns-2)
