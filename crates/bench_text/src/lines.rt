@@ -1,9 +1,8 @@
 // Writing lines into a buffer: fixed words, numbers, rows of numbers. Each function writes from `at` on and answers with the place after.
-ghost use mathlib.Core.Path.{_≡_};
+use fermat::number;
 ghost use mathlib.Core.Bool.{cond};
 ghost use mathlib.Core.List.{[], _∷_, _++_};
 ghost use Prim.Native.Nat.{_+_, _*_, _≤_, _<_};
-ghost use lib.IntN.{natAbs};
 ghost use lib.ListN.{length};
 ghost use Rattle.bench_text.specs.Lines.{decimal, signedDecimal, numbered, unreadable, rowsText};
 ghost use Rattle.bench_text.specs.Writing.{Appended};
@@ -34,18 +33,6 @@ fn put_number(lines: &mut [u8], at: usize, n: usize) -> usize
     last + 1
 }
 
-// The size of a value: its distance from 0.
-fn size(value: i32) -> usize
-    ensures { λ r. ⌜ r ≡ natAbs value ⌝ }
-{
-    if value < 0 {
-        let wide = value as i64;
-        (0 - wide) as usize
-    } else {
-        value as usize
-    }
-}
-
 // A value with a minus sign where it is below 0.
 fn put_value(lines: &mut [u8], at: usize, value: i32) -> usize
     requires { ⌜ at + 11 ≤ length (now lines) ⌝ }
@@ -55,7 +42,7 @@ fn put_value(lines: &mut [u8], at: usize, value: i32) -> usize
     if value < 0 {
         first = put_bytes(lines, at, b"-");
     }
-    put_number(lines, first, size(value))
+    put_number(lines, first, number::size(value) as usize)
 }
 
 // A value of a row, and what follows it: a newline after the last of a row, else a space.

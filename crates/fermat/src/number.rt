@@ -1,9 +1,22 @@
-// The lesser of two numbers.
+// The lesser of two numbers, and the size of a signed one.
 ghost use mathlib.Core.Path.{_≡_};
 ghost use Prim.Native.Nat.{min};
+ghost use lib.IntN.{natAbs};
 
 pub fn lesser(a: usize, b: usize) -> usize
     ensures { λ r. ⌜ r ≡ min a b ⌝ }
 {
     if a < b { a } else { b }
+}
+
+// The size of a value: its distance from 0. That of −2,147,483,648 fits 32 bits without a sign.
+pub fn size(value: i32) -> u32
+    ensures { λ r. ⌜ r ≡ natAbs value ⌝ }
+{
+    if value < 0 {
+        let turned = 0 - (value + 1);
+        turned as u32 + 1
+    } else {
+        value as u32
+    }
 }

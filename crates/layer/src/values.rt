@@ -1,4 +1,5 @@
 // The size of a value, and the check of the map: no value is beyond the peak.
+use fermat::number;
 ghost use mathlib.Core.Path.{_≡_};
 ghost use lib.IntN.{natAbs};
 ghost use Rattle.layer.specs.Load.{withinPeak};
@@ -7,13 +8,7 @@ ghost use Rattle.layer.specs.Load.{withinPeak};
 pub fn size(v: i16) -> u64
     ensures { λ r. ⌜ r ≡ natAbs v ⌝ }
 {
-    if v < 0 {
-        let wide = v as i32;
-        let turned = 0 - wide;
-        turned as u64
-    } else {
-        v as u64
-    }
+    number::size(v as i32) as u64
 }
 
 // Whether no value of the map is beyond the peak. One pass takes the least and the greatest of 0 and all values, with no exit

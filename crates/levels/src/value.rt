@@ -1,22 +1,11 @@
 // The level of one output: its size is divided and clamped, then takes the sign of the output.
+use fermat::number;
 ghost use mathlib.Core.Path.{_≡_};
 ghost use mathlib.Core.Bool.{cond};
 ghost use Prim.Native.Nat.{_/_, _^_, _≤_};
-ghost use lib.IntN.{pos, negsuc, natAbs};
+ghost use lib.IntN.{pos, negsuc};
 ghost use lib.Signed.{ltZ};
 ghost use Rattle.levels.specs.Level.{level};
-
-// The size of a value: its distance from 0. That of −2,147,483,648 fits 32 bits without a sign.
-fn size(value: i32) -> u32
-    ensures { λ r. ⌜ r ≡ natAbs value ⌝ }
-{
-    if value < 0 {
-        let turned = 0 - (value + 1);
-        turned as u32 + 1
-    } else {
-        value as u32
-    }
-}
 
 // −1 where the value is below 0, else 1.
 fn sign(value: i32) -> i16
@@ -31,7 +20,7 @@ pub(crate) fn level_of(value: i32, bits: u32, half: u32, most: u32) -> i16
     requires { ⌜ (bits ≤ 31) × (half ≡ 2 ^ bits / 2) × (most ≤ 32767) ⌝ }
     ensures { λ r. ⌜ r ≡ level bits most value ⌝ }
 {
-    let nearest = (size(value) + half) >> bits;
+    let nearest = (number::size(value) + half) >> bits;
     let clamped = if nearest < most { nearest } else { most };
     clamped as i16 * sign(value)
 }

@@ -34,6 +34,9 @@ put-bytes-requires c κs = search needs
 size-requires : tie.Need-size-requires
 size-requires c κs = search needs
 
+cast-put-number : tie.Need-cast-put-number
+cast-put-number c = search needs
+
 -- the size that is put
 sized : (c : tie.After-size) → c .size .result ≡ natAbs (c .before .before .before .before .args .value)
 sized c = rw (toZ-ofZ (c .before .before .before .before .fits .value)) at (c .size .ensures)
@@ -65,6 +68,7 @@ put-value-spec =
     slice-aggregate-put-bytes
     put-bytes-requires
     size-requires
+    cast-put-number
     put-number-requires
     same-length
     returns)

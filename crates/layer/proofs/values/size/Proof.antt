@@ -1,45 +1,25 @@
--- `size` takes a value below 0 from 0 in 32 bits, where 32,768 fits. It rests on the law that a negative has the same size.
-use native.Mathlib.Omega.{arith}
-use borrow.Author.Needs.{needs}
-use lib.IntN.{ℤ, negℤ}
-use mir.Facts.{toZ-ofZ, sfits-widen, fits-natAbs}
+-- `size` is that of the value in 32 bits.
+use mir.Facts.{toZ-ofZ, sfits-widen}
 use mir.Syntax.{w16, w32}
 use mir.Val.{SFits}
-use Rattle.algebra.specs.SignLaws.{zero-minus, below-zero, not-below, mag-neg}
-use Rattle.algebra.specs.SizeLaws.{size-neg}
+use borrow.Author.Needs.{needs}
 use Rattle.layer.proofs.values.size.Statement.{statement}
 use Rattle.layer.proofs.values.size.Tie as tie
 
--- the negative of a value of 16 bits fits 32 bits
-neg-fits : (z : ℤ) → SFits w16 z → SFits w32 (negℤ z)
-neg-fits z f = record { sfits = omega (arith, mag-neg z, f .sfits) }
+wide : (c : tie.Start) → SFits w32 (c .args .v)
+wide c = sfits-widen {w = w16} tt (c .fits .v)
 
-cast-wide : tie.Need-cast-wide
-cast-wide c = rw (toZ-ofZ (c .before .fits .v)) (sfits-widen tt (c .before .fits .v))
+cast-size : tie.Need-cast-size
+cast-size c = rw (toZ-ofZ (c .fits .v)) (wide c)
 
-sub-turned : tie.Need-sub-turned
-sub-turned c =
-    let f = c .before .fits .v in
-    rw (toZ-ofZ f, toZ-ofZ (sfits-widen {w = w16} {w′ = w32} tt f), zero-minus) (neg-fits _ f)
+size-requires : tie.Need-size-requires
+size-requires c κs = search needs
 
 cast-result : tie.Need-cast-result
-cast-result c =
-    let f = c .before .fits .v in
-    rw (toZ-ofZ f, toZ-ofZ (sfits-widen {w = w16} {w′ = w32} tt f), zero-minus, toZ-ofZ (neg-fits _ f))
-    (below-zero (c .before .args .v) (rw (toZ-ofZ f) at (c .if1 .taken)), fits-natAbs {w = w32} tt (neg-fits _ f))
-
-cast-result-2 : tie.Need-cast-result-2
-cast-result-2 c =
-    let f = c .before .fits .v in
-    rw (toZ-ofZ f) (not-below (c .before .args .v) (rw (toZ-ofZ f) at (c .if1 .left)), fits-natAbs {w = w16} tt f)
+cast-result c = search needs
 
 returns : tie.Need-returns
-returns c =
-    let f = c .before .fits .v in
-    rw (toZ-ofZ f, toZ-ofZ (sfits-widen {w = w16} {w′ = w32} tt f), zero-minus, toZ-ofZ (neg-fits _ f)) (size-neg (c .before .args .v))
-
-returns-2 : tie.Need-returns-2
-returns-2 c = search needs
+returns c = rw (toZ-ofZ (c .before .fits .v), toZ-ofZ (wide (c .before))) at (c .size .ensures)
 
 pub size-spec : {M : Type 1} → statement M
-size-spec = tie.close (tie.spec cast-wide sub-turned cast-result cast-result-2 returns returns-2)
+size-spec = tie.close (tie.spec cast-size size-requires cast-result returns)

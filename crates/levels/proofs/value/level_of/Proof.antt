@@ -5,7 +5,7 @@ use mathlib.Core.Logic.{⊎-elim}
 use Prim.Native.Nat.{_+_, _/_, _^_, _≤_, _<_}
 use native.Mathlib.Omega.{arith}
 use borrow.Author.Needs.{needs, sfits-of}
-use lib.IntN.{pos, negsuc, natAbs, _*ℤ_}
+use lib.IntN.{ℤ, pos, negsuc, natAbs, _*ℤ_}
 use lib.Pow.{pow-mono}
 use lib.Signed.{ltZ, natAbs-le}
 use mir.Facts.{toZ-ofZ, toZ-pos}
@@ -14,9 +14,13 @@ use mir.Val.{SFits, toZ, ofZ}
 use Rattle.levels.specs.Level.{nearest, level}
 use Rattle.levels.specs.NearestLaws.{nearest-is}
 use Rattle.levels.specs.LevelLaws.{held, level-signed, level-within}
-use Rattle.levels.proofs.Signs.{fits-small}
 use Rattle.levels.proofs.value.level_of.Statement.{statement}
 use Rattle.levels.proofs.value.level_of.Tie as tie
+
+-- a number of that size fits 16 bits
+fits-small : (z : ℤ) → natAbs z ≤ 32767 → SFits w16 z
+fits-small (pos n) l = record { sfits = omega arith }
+fits-small (negsuc n) l = record { sfits = omega arith }
 
 size-requires : tie.Need-size-requires
 size-requires c κs = search needs

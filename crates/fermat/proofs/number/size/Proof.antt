@@ -3,45 +3,52 @@ use mathlib.Core.Bool.{true}
 use mathlib.Core.Path.{_≡_}
 use native.Mathlib.Omega.{arith}
 use borrow.Author.Needs.{needs}
-use lib.IntN.{pos}
-use lib.Signed.{ltZ}
+use lib.IntN.{pos, negℤ}
+use lib.Signed.{mag, ltZ}
 use mir.Facts.{toZ-ofZ, fits-natAbs}
 use mir.Syntax.{w32}
-use Rattle.algebra.specs.SignLaws.{not-below}
-use Rattle.levels.proofs.Signs.{one-more, turned-back, size-below, fits-one-more, fits-turned}
-use Rattle.levels.proofs.value.size.Statement.{statement}
-use Rattle.levels.proofs.value.size.Tie as tie
+use mir.Val.{SFits}
+use Rattle.algebra.specs.SignLaws.{not-below, one-more, turned-back, size-below, mag-neg-pos}
+use Rattle.fermat.proofs.number.size.Statement.{statement}
+use Rattle.fermat.proofs.number.size.Tie as tie
 
 -- in the first branch the value is below 0
 below : (c : tie.Then1) → ltZ (c .before .args .value) (pos 0) ≡ true
 below c = rw (toZ-ofZ (c .before .fits .value)) at (c .if1 .taken)
 
+-- the value and 1 fits, and so does its negative
+more-fits : (c : tie.Then1) → SFits w32 (negℤ (pos (mag (c .before .args .value))))
+more-fits c = record { sfits = omega (arith, mag-neg-pos (mag (c .before .args .value)), c .before .fits .value .sfits) }
+
+turned-fits : (c : tie.Then1) → SFits w32 (pos (mag (c .before .args .value)))
+turned-fits c = record { sfits = c .before .fits .value .sfits }
+
 add-turned : tie.Need-add-turned
 add-turned c =
     let f = c .before .fits .value in
     let z = c .before .args .value in
-    rw (toZ-ofZ f, one-more z (below c)) (fits-one-more z (below c) f)
+    rw (toZ-ofZ f, one-more z (below c)) (more-fits c)
 
 sub-turned : tie.Need-sub-turned
 sub-turned c =
     let f = c .before .fits .value in
     let z = c .before .args .value in
-    rw (toZ-ofZ f, one-more z (below c), toZ-ofZ (fits-one-more z (below c) f), turned-back z (below c)) (fits-turned z (below c) f)
+    rw (toZ-ofZ f, one-more z (below c), toZ-ofZ (more-fits c), turned-back z (below c)) (turned-fits c)
 
 cast-result : tie.Need-cast-result
 cast-result c =
     let f = c .before .fits .value in
     let z = c .before .args .value in
     let e = below c in
-    rw (toZ-ofZ f, one-more z e, toZ-ofZ (fits-one-more z e f), turned-back z e, toZ-ofZ (fits-turned z e f))
-    (tt, fits-natAbs {w = w32} tt (fits-turned z e f))
+    rw (toZ-ofZ f, one-more z e, toZ-ofZ (more-fits c), turned-back z e, toZ-ofZ (turned-fits c))
+    (tt, fits-natAbs {w = w32} tt (turned-fits c))
 
 add-result : tie.Need-add-result
 add-result c =
     let f = c .before .fits .value in
     let z = c .before .args .value in
     let e = below c in
-    rw (toZ-ofZ f, one-more z e, toZ-ofZ (fits-one-more z e f), turned-back z e, toZ-ofZ (fits-turned z e f))
+    rw (toZ-ofZ f, one-more z e, toZ-ofZ (more-fits c), turned-back z e, toZ-ofZ (turned-fits c))
     (record { fits = omega (arith, f .sfits) })
 
 cast-result-2 : tie.Need-cast-result-2
@@ -54,7 +61,7 @@ returns c =
     let f = c .before .fits .value in
     let z = c .before .args .value in
     let e = below c in
-    rw (toZ-ofZ f, one-more z e, toZ-ofZ (fits-one-more z e f), turned-back z e, toZ-ofZ (fits-turned z e f)) (size-below z e)
+    rw (toZ-ofZ f, one-more z e, toZ-ofZ (more-fits c), turned-back z e, toZ-ofZ (turned-fits c)) (size-below z e)
 
 returns-2 : tie.Need-returns-2
 returns-2 c = search needs
