@@ -14,7 +14,7 @@ isHalf divisor remainder = leb divisor (2 * remainder)
 unfoldable pub nearest : (shift n : ℕ) → ℕ
 nearest shift n = n / 2 ^ shift + cond (isHalf (2 ^ shift) (n % 2 ^ shift)) 1 0
 
--- A value is divided by its size and keeps its sign, so that halves go away from zero. `pos n` is n, `negsuc n` is −(n + 1).
+-- The size of a value is divided and its sign kept, so that halves go away from zero. `pos n` is n, `negsuc n` is −(n + 1).
 unfoldable pub divided : (shift : ℕ) → ℤ → ℤ
 divided shift (pos n) = pos (nearest shift n)
 divided shift (negsuc n) = negℤ (pos (nearest shift (suc n)))
