@@ -42,6 +42,23 @@ mod c {
     }
 }
 
+/// A call of a C function: plain arguments, then the slices that it reads, then those that it writes, each as its pointer
+/// and its length, then what comes last.
+macro_rules! called {
+    ($function:ident($($plain:expr),*), read($($read:expr),*), written($($written:expr),*) $(, $last:expr)?) => {
+        // Safety: every pointer is of a slice of the length beside it, or of an array of the length that the header names,
+        // and is not null; borrowed slices do not overlap.
+        unsafe {
+            c::$function(
+                $($plain,)*
+                $($read.as_ptr(), $read.len(),)*
+                $($written.as_mut_ptr(), $written.len(),)*
+                $($last)?
+            )
+        }
+    };
+}
+
 /// What stands in a figure before the call: no call returns it.
 const UNWRITTEN: usize = usize::MAX - 12_345;
 
@@ -57,8 +74,7 @@ pub struct Answer {
 /// The number and the four figures: E, F, the tile total and 3N².
 pub fn plan(layer: &[usize; 14]) -> (usize, [usize; 4]) {
     let mut figures = [UNWRITTEN; 4];
-    // Safety: both pointers are of arrays of the lengths that the header names.
-    let number = unsafe { c::wemsteky_plan(layer.as_ptr(), figures.as_mut_ptr()) };
+    let number = called!(wemsteky_plan(layer.as_ptr()), read(), written(), figures.as_mut_ptr());
     (number, figures)
 }
 
@@ -71,21 +87,7 @@ fn answer(call: impl FnOnce(*mut usize) -> usize) -> Answer {
 }
 
 pub fn run(layer: &[usize; 14], map: &[i16], kernel: &[i16], output: &mut [i32], scratch: &mut [u64]) -> Answer {
-    // Safety: every pointer is of a slice of the length beside it and is not null; borrowed slices do not overlap.
-    answer(|figures| unsafe {
-        c::wemsteky_run(
-            layer.as_ptr(),
-            map.as_ptr(),
-            map.len(),
-            kernel.as_ptr(),
-            kernel.len(),
-            output.as_mut_ptr(),
-            output.len(),
-            scratch.as_mut_ptr(),
-            scratch.len(),
-            figures,
-        )
-    })
+    answer(|figures| called!(wemsteky_run(layer.as_ptr()), read(map, kernel), written(output, scratch), figures))
 }
 
 pub fn job(
@@ -95,36 +97,19 @@ pub fn job(
     output: &mut [i32],
     scratch: &mut [u64],
 ) -> Answer {
-    // Safety: as in `run`.
-    answer(|figures| unsafe {
-        c::wemsteky_job(
-            layer.as_ptr(),
-            next,
-            budget,
-            map.as_ptr(),
-            map.len(),
-            kernel.as_ptr(),
-            kernel.len(),
-            output.as_mut_ptr(),
-            output.len(),
-            scratch.as_mut_ptr(),
-            scratch.len(),
-            figures,
-        )
+    answer(|figures| {
+        called!(wemsteky_job(layer.as_ptr(), next, budget), read(map, kernel), written(output, scratch), figures)
     })
 }
 
 pub fn transform(field: usize, words: &mut [u64]) -> usize {
-    // Safety: the pointer is of a slice of the length beside it and is not null.
-    unsafe { c::wemsteky_transform(field, words.as_mut_ptr(), words.len()) }
+    called!(wemsteky_transform(field), read(), written(words))
 }
 
 pub fn inverse(field: usize, words: &mut [u64]) -> usize {
-    // Safety: as in `transform`.
-    unsafe { c::wemsteky_inverse(field, words.as_mut_ptr(), words.len()) }
+    called!(wemsteky_inverse(field), read(), written(words))
 }
 
 pub fn levels(shift: usize, bound: usize, outputs: &[i32], levels: &mut [i16]) -> usize {
-    // Safety: both pointers are of slices of the lengths beside them and are not null; borrowed slices do not overlap.
-    unsafe { c::wemsteky_levels(shift, bound, outputs.as_ptr(), outputs.len(), levels.as_mut_ptr(), levels.len()) }
+    called!(wemsteky_levels(shift, bound), read(outputs), written(levels))
 }

@@ -12,7 +12,7 @@ pub struct Value {
 
 // The number of digits in base ten; 65,536 where it is larger than 65,535, or where the word is no number. Larger numbers are all 65,536, so
 // that no sum wraps.
-pub fn whole_number(word: &[u8]) -> usize
+pub(crate) fn whole_number(word: &[u8]) -> usize
     ensures { λ r. ⌜ r ≡ figureOr (now (word .entry)) ⌝ }
 {
     if word.len() == 0 {
@@ -32,7 +32,7 @@ pub fn whole_number(word: &[u8]) -> usize
 }
 
 // A number with at most one minus sign before it, where it fits 16 signed bits.
-pub fn signed_number(word: &[u8]) -> Value
+pub(crate) fn signed_number(word: &[u8]) -> Value
     ensures { λ r. ⌜ SignedRead (now (word .entry)) r ⌝ }
 {
     if word.len() == 0 {

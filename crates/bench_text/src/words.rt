@@ -87,7 +87,7 @@ fn read_figures(text: &[u8], cut: bool, numbers: &mut [usize]) -> Read
 }
 
 // Fourteen numbers 0 to 65,535 from the start on.
-pub fn read_header(text: &[u8], cut: bool, numbers: &mut [usize; 14]) -> Read
+pub(crate) fn read_header(text: &[u8], cut: bool, numbers: &mut [usize; 14]) -> Read
     ensures { λ r. ⌜ WordsRead isFigure cut (now (text .entry)) 0 14 r ⌝ }
     ensures { λ r. ⌜ (r .valid ≡ true → now (numbers .exit) ≡ figuresOf (take 14 (wordsOf cut (now (text .entry))))) ⌝ }
 {
@@ -95,7 +95,7 @@ pub fn read_header(text: &[u8], cut: bool, numbers: &mut [usize; 14]) -> Read
 }
 
 // As many signed numbers as there are values, from `at` on, of a text that is not cut off.
-pub fn read_values(text: &[u8], at: usize, values: &mut [i16]) -> Read
+pub(crate) fn read_values(text: &[u8], at: usize, values: &mut [i16]) -> Read
     requires { ⌜ at ≤ length (now text) ⌝ }
     ensures { λ r. ⌜ WordsRead isValue false (now (text .entry)) at (length (now (values .entry))) r ⌝ }
     ensures { λ r. ⌜ (r .valid ≡ true → now (values .exit) ≡ valuesOf (take (length (now (values .entry))) (wordsOf false (drop at (now (text .entry)))))) ⌝ }
@@ -125,7 +125,7 @@ pub fn read_values(text: &[u8], at: usize, values: &mut [i16]) -> Read
 }
 
 // Whether no word follows from `at` on.
-pub fn no_more(text: &[u8], at: usize) -> bool
+pub(crate) fn no_more(text: &[u8], at: usize) -> bool
     requires { ⌜ at ≤ length (now text) ⌝ }
     ensures { λ r. ⌜ r ≡ eqb (length (wordsOf false (drop at (now (text .entry))))) 0 ⌝ }
 {

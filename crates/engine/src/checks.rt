@@ -40,7 +40,7 @@ fn call_code(layer: Layer, map: &[i16], kernel: &[i16], output: usize, scratch: 
 }
 
 // The first of the rules 1 to 17 that is broken, or 0.
-pub fn job_code(
+pub(crate) fn job_code(
     layer: Layer,
     next: usize,
     map: &[i16],

@@ -30,7 +30,7 @@ fn keeps_kernel(layer: Layer, from: usize, tile: usize) -> bool
 }
 
 // Finishes the tiles from `from` up to `to`. The first 3N² words of scratch are left as they come.
-pub fn finish_tiles(
+pub(crate) fn finish_tiles(
     layer: Layer,
     from: usize,
     to: usize,

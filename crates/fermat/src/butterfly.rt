@@ -83,7 +83,7 @@ fn butterflies(
 }
 
 // One stage: butterflies between the first rows of the two halves, row r with the power 2^(unit r). Row 0, of power 1, comes last.
-pub fn stage(
+pub(crate) fn stage(
     words: &mut [u64],
     rows: usize,
     half: usize,

@@ -39,7 +39,14 @@ fn widen(words: &mut [u64], n: usize, k: usize)
 }
 
 // The transform of the corner in the second half comes out in the first, as `forward_tile` leaves that of a whole tile.
-pub fn forward_corner(words: &mut [u64], n: usize, k: usize, levels: u32, bits: u32, bound: u64)
+pub(crate) fn forward_corner(
+    words: &mut [u64],
+    n: usize,
+    k: usize,
+    levels: u32,
+    bits: u32,
+    bound: u64,
+)
     requires { ⌜ Bound bits bound ⌝ }
     requires { ⌜ Square (n * n) n levels bits bound ⌝ }
     requires { ⌜ Cornered n k bound (now words) ⌝ }

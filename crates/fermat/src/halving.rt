@@ -8,7 +8,7 @@ use crate::butterfly::stage;
 use crate::number::lesser;
 
 // At the root 2^unit, rows in bit-reversed order at the end. Rows from `filled` on are 0, and their butterflies are left out.
-pub fn forward(
+pub(crate) fn forward(
     words: &mut [u64],
     filled: usize,
     lanes: usize,
@@ -53,7 +53,14 @@ pub fn forward(
 }
 
 // At the inverse of 2^unit, from rows in bit-reversed order to rows in order, less the division by the length.
-pub fn inverse(words: &mut [u64], lanes: usize, levels: u32, unit: u32, bits: u32, bound: u64)
+pub(crate) fn inverse(
+    words: &mut [u64],
+    lanes: usize,
+    levels: u32,
+    unit: u32,
+    bits: u32,
+    bound: u64,
+)
     requires { ⌜ Bound bits bound ⌝ }
     requires { ⌜ Grid (length (now words)) lanes levels unit bits bound ⌝ }
     requires { ⌜ AtMost bound (now words) ⌝ }

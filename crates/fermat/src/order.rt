@@ -31,7 +31,7 @@ fn reverse(k: usize, levels: u32) -> usize
 }
 
 // Each word goes to the place whose index has its bits in reverse order.
-pub fn reorder(words: &mut [u64], levels: u32)
+pub(crate) fn reorder(words: &mut [u64], levels: u32)
     requires { ⌜ (length (now words) ≡ 2 ^ levels) × (levels ≤ 6) ⌝ }
     ensures { λ _. ⌜ Permuted (reversed levels) (now (words .entry)) (now (words .exit)) ⌝ }
 {
@@ -58,7 +58,7 @@ fn swap_row(words: &mut [u64], n: usize, r: usize)
 }
 
 // Rows and columns change places.
-pub fn transpose(words: &mut [u64], n: usize)
+pub(crate) fn transpose(words: &mut [u64], n: usize)
     requires { ⌜ length (now words) ≡ n * n ⌝ }
     ensures { λ _. ⌜ Permuted (across n) (now (words .entry)) (now (words .exit)) ⌝ }
 {

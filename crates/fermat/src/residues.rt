@@ -6,7 +6,7 @@ ghost use Rattle.algebra.specs.Places.{Written, Run};
 ghost use Rattle.fermat.specs.Answer.{allBelow};
 
 // Whether every word is below m.
-pub fn all_below(words: &[u64], m: u64) -> bool
+pub(crate) fn all_below(words: &[u64], m: u64) -> bool
     ensures { λ r. ⌜ r ≡ allBelow m (now (words .entry)) ⌝ }
 {
     let mut i = 0;

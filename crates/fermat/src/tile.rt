@@ -9,7 +9,7 @@ use crate::halving::forward;
 use crate::halving::inverse;
 use crate::order::transpose;
 
-pub fn forward_tile(words: &mut [u64], n: usize, levels: u32, bits: u32, bound: u64)
+pub(crate) fn forward_tile(words: &mut [u64], n: usize, levels: u32, bits: u32, bound: u64)
     requires { ⌜ Bound bits bound ⌝ }
     requires { ⌜ Square (length (now words)) n levels bits bound ⌝ }
     requires { ⌜ AtMost bound (now words) ⌝ }
@@ -22,7 +22,7 @@ pub fn forward_tile(words: &mut [u64], n: usize, levels: u32, bits: u32, bound: 
 }
 
 // Less the division by n * n.
-pub fn inverse_tile(words: &mut [u64], n: usize, levels: u32, bits: u32, bound: u64)
+pub(crate) fn inverse_tile(words: &mut [u64], n: usize, levels: u32, bits: u32, bound: u64)
     requires { ⌜ Bound bits bound ⌝ }
     requires { ⌜ Square (length (now words)) n levels bits bound ⌝ }
     requires { ⌜ AtMost bound (now words) ⌝ }

@@ -66,7 +66,7 @@ fn channel_load(layer: Layer, kernel: &[i16], m: usize) -> u64
 }
 
 // The field's limit of a load.
-pub fn load_limit(field: usize) -> u64
+pub(crate) fn load_limit(field: usize) -> u64
     ensures { λ r. ⌜ r ≡ loadLimit field ⌝ }
 {
     if field == 4 { 32768 } else { 2147483647 }

@@ -7,12 +7,12 @@ use lib.IntN.{ℤ, pos, negsuc, negℤ}
 use lib.Signed.{ltZ}
 
 -- a remainder is half of the divisor or more
-unfoldable pub isHalf : (divisor remainder : ℕ) → Bool
-isHalf divisor remainder = leb divisor (2 * remainder)
+unfoldable pub halfOrMore : (divisor remainder : ℕ) → Bool
+halfOrMore divisor remainder = leb divisor (2 * remainder)
 
 -- A size n divided by 2^shift: the quotient, and one more where the remainder is half of 2^shift or more.
 unfoldable pub nearest : (shift n : ℕ) → ℕ
-nearest shift n = n / 2 ^ shift + cond (isHalf (2 ^ shift) (n % 2 ^ shift)) 1 0
+nearest shift n = n / 2 ^ shift + cond (halfOrMore (2 ^ shift) (n % 2 ^ shift)) 1 0
 
 -- The size of a value is divided and its sign kept, so that halves go away from zero. `pos n` is n, `negsuc n` is −(n + 1).
 unfoldable pub divided : (shift : ℕ) → ℤ → ℤ

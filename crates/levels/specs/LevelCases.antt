@@ -4,7 +4,7 @@ use mathlib.Core.Path.{_≡_, refl}
 use mathlib.Core.List.{List, [], _∷_}
 use Prim.Native.Nat.{ℕ}
 use lib.IntN.{ℤ, pos, negℤ}
-use Rattle.levels.specs.Level.{isHalf, nearest, divided, clamp, level}
+use Rattle.levels.specs.Level.{halfOrMore, nearest, divided, clamp, level}
 use Rattle.levels.specs.Answer.{levelsOf}
 
 pub data Case : Type 0 where
@@ -42,5 +42,5 @@ cases =
     ∷ []
 
 pub cases-hold : Hold cases
-unfolding level clamp divided nearest isHalf
+unfolding level clamp divided nearest halfOrMore
 cases-hold = (refl, (refl, (refl, (refl, (refl, (refl, tt))))))

@@ -7,22 +7,22 @@ use native.Mathlib.Nat.{mod-lt, div-add-mod', div-eq-of-lt-le, le-div-iff-mul-le
 use native.Mathlib.Omega.{arith}
 use borrow.Author.Tests.{leb-true, leb-false}
 use lib.Pow.{pow-pos, shr-mono}
-use Rattle.levels.specs.Level.{isHalf, nearest}
+use Rattle.levels.specs.Level.{halfOrMore, nearest}
 
 -- ---- one division: half of 2^shift is added, and the quotient rounded down
 
-less-than-half : (m r : ℕ) → isHalf m r ≡ false → 2 * r < m
-unfolding isHalf
+less-than-half : (m r : ℕ) → halfOrMore m r ≡ false → 2 * r < m
+unfolding halfOrMore
 less-than-half m r e = leb-false m (2 * r) e
 
-half-or-more : (m r : ℕ) → isHalf m r ≡ true → m ≤ 2 * r
-unfolding isHalf
+half-or-more : (m r : ℕ) → halfOrMore m r ≡ true → m ≤ 2 * r
+unfolding halfOrMore
 half-or-more m r e = leb-true m (2 * r) e
 
-half-added : {m : ℕ} (n : ℕ) → 0 < m → n / m + cond (isHalf m (n % m)) 1 0 ≡ (n + m / 2) / m
-half-added {m} n some = go (isHalf m (n % m)) refl
+half-added : {m : ℕ} (n : ℕ) → 0 < m → n / m + cond (halfOrMore m (n % m)) 1 0 ≡ (n + m / 2) / m
+half-added {m} n some = go (halfOrMore m (n % m)) refl
   where
-    go : (t : Bool) → isHalf m (n % m) ≡ t → n / m + cond t 1 0 ≡ (n + m / 2) / m
+    go : (t : Bool) → halfOrMore m (n % m) ≡ t → n / m + cond t 1 0 ≡ (n + m / 2) / m
     go true e =
         let up = half-or-more m (n % m) e in
         sym (div-eq-of-lt-le m (omega (arith, div-add-mod' n m)) (omega (arith, div-add-mod' n m, mod-lt n some)))
@@ -41,8 +41,12 @@ pub record Nearest (shift n q : ℕ) : Type 0 where
   pub above : 2 * (q * 2 ^ shift) ≤ 2 * n + 2 ^ shift
   pub below : 2 * n < 2 * (q * 2 ^ shift) + 2 ^ shift
 
+-- what a quotient rounded down says, and a divisor more
 quotient : {m : ℕ} (x : ℕ) → 0 < m → (x / m * m ≤ x) × (x < x / m * m + m)
 quotient {m} x some = (omega (arith, div-add-mod' x m), omega (arith, div-add-mod' x m, mod-lt x some))
+
+one-more : {m : ℕ} (x : ℕ) → 0 < m → (x + m) / m ≡ x / m + 1
+one-more {m} x some = div-eq-of-lt-le m (omega (arith, quotient x some)) (omega (arith, quotient x some))
 
 pub nearest-nearest : (shift n : ℕ) → Nearest shift n (nearest shift n)
 nearest-nearest shift n =
@@ -80,5 +84,4 @@ nearest-across shift d a b l =
     let p : ℕ = nearest shift a in
     let q : ℕ = nearest shift b in
     let within : (p + q) * 2 ^ shift ≤ d + 2 ^ shift = omega (arith, nearest-nearest shift a .above, nearest-nearest shift b .above) in
-    let one-more : (d + 2 ^ shift) / 2 ^ shift ≡ d / 2 ^ shift + 1 = div-eq-of-lt-le (2 ^ shift) (omega (arith, quotient d m>0)) (omega (arith, quotient d m>0)) in
-    omega (arith, le-div-iff-mul-le m>0 .1 within, one-more)
+    omega (arith, le-div-iff-mul-le m>0 .1 within, one-more d m>0)

@@ -60,7 +60,7 @@ fn window_spectrum(
 
 // Map channel c is added to the sum, which is that of the channels before. The transform of its plane of the kernel is left in scratch; where
 // it is kept from an earlier tile, it is not made again.
-pub fn add_channel(
+pub(crate) fn add_channel(
     scratch: &mut [u64],
     layer: Layer,
     origin: Origin,

@@ -28,7 +28,7 @@ fn load_turned(words: &mut [u64], count: usize, values: &[i16], from: usize, mod
 }
 
 // The weights of a plane, turned round in CONV: their order is reversed in rows and in columns, so in the plane.
-pub fn load_kernel(words: &mut [u64], layer: Layer, kernel: &[i16], plane: usize)
+pub(crate) fn load_kernel(words: &mut [u64], layer: Layer, kernel: &[i16], plane: usize)
     requires { ⌜ InRange layer × (length (now words) ≡ transformLength layer * layer .side) ⌝ }
     requires { ⌜ (length (now kernel) ≡ layer .outputs * layer .inputs * (layer .side * layer .side)) × (plane < layer .outputs * layer .inputs) ⌝ }
     ensures { λ _. ⌜ HoldsKernel layer (now (kernel .entry)) plane (now (words .exit)) ⌝ }

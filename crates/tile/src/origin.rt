@@ -16,7 +16,7 @@ pub struct Origin {
     pub column: usize,
 }
 
-pub fn origin_of(layer: Layer, tile: usize) -> Origin
+pub(crate) fn origin_of(layer: Layer, tile: usize) -> Origin
     requires { ⌜ Planned layer × (tile < tileTotal layer) ⌝ }
     ensures { λ r. ⌜ (r .channel ≡ tileChannel layer tile) × (r .row ≡ firstRow layer tile) × (r .column ≡ firstColumn layer tile) ⌝ }
     ensures { λ r. ⌜ Within layer r ⌝ }

@@ -26,7 +26,7 @@ fn spacing_of(layer: Layer) -> usize
 }
 
 // Grid places before the first map value.
-pub fn edge_of(layer: Layer) -> usize
+pub(crate) fn edge_of(layer: Layer) -> usize
     requires { ⌜ InRange layer ⌝ }
     ensures { λ r. ⌜ r ≡ edge layer ⌝ }
 {
@@ -45,7 +45,7 @@ fn above(a: usize, b: usize) -> usize
 }
 
 // What a row of the window that begins at `column` shows.
-pub fn shown_of(layer: Layer, column: usize) -> Shown
+pub(crate) fn shown_of(layer: Layer, column: usize) -> Shown
     requires { ⌜ InRange layer × (column ≤ 10000) ⌝ }
     ensures { λ r. ⌜ Shows layer column r ⌝ }
 {
@@ -65,7 +65,7 @@ pub fn shown_of(layer: Layer, column: usize) -> Shown
 }
 
 // Whether the grid row `line` holds a row of the map.
-pub fn has_values(layer: Layer, line: usize) -> bool
+pub(crate) fn has_values(layer: Layer, line: usize) -> bool
     requires { ⌜ InRange layer ⌝ }
     ensures { λ r. ⌜ r ≡ spread (spacing layer) (edge layer) (layer .height) line ⌝ }
 {

@@ -149,7 +149,7 @@ fn store_rows(output: &mut [i32], words: &[u64], layer: Layer, rows: Held, colum
 }
 
 // Stores tile `tile` of the layer: the value of each output place that it holds. No other place changes.
-pub fn store_tile(output: &mut [i32], words: &[u64], layer: Layer, tile: usize)
+pub(crate) fn store_tile(output: &mut [i32], words: &[u64], layer: Layer, tile: usize)
     requires { ⌜ Planned layer × (length (now output) ≡ layer .outputs * layer .rows * layer .columns) × (tile < tileTotal layer) ⌝ }
     requires { ⌜ transformLength layer * transformLength layer ≤ length (now words) ⌝ }
     requires { ⌜ ((p : ℕ) → p < length (now output) → tileOf layer p ≡ tile → Storable (halfOf (layer .field)) (wordOf layer tile p (now words))) ⌝ }

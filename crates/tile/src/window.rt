@@ -111,7 +111,7 @@ fn load_line(
 }
 
 // The window of a map channel whose first place is that row and column of the grid.
-pub fn load_window(
+pub(crate) fn load_window(
     words: &mut [u64],
     layer: Layer,
     map: &[i16],

@@ -6,7 +6,7 @@ ghost use Rattle.algebra.specs.Places.{Run};
 ghost use Rattle.tile.specs.Loaded.{Word, Loaded};
 
 // The value and the modulus. It is not below 0, so no value needs a branch.
-pub fn word(value: i16, modulus: u64) -> u64
+pub(crate) fn word(value: i16, modulus: u64) -> u64
     requires { ⌜ (32768 ≤ modulus) × (modulus ≤ 4294967297) ⌝ }
     ensures { λ r. ⌜ Word modulus value r ⌝ }
 {
@@ -17,7 +17,7 @@ pub fn word(value: i16, modulus: u64) -> u64
 }
 
 // The words from `at` on hold `count` values, from the value `from` on.
-pub fn load_run(
+pub(crate) fn load_run(
     words: &mut [u64],
     at: usize,
     count: usize,
