@@ -1,8 +1,9 @@
 -- Laws of congruence: it is an equivalence that sums, products and powers respect. `c-via` joins an exact step, a congruence and an exact step.
 use mathlib.Core.Path.{_≡_, refl, sym, ap, _∙_}
 use mathlib.Core.Logic.{_≢_}
-use Prim.Native.Nat.{ℕ, zero, suc, _+_, _*_, _/_, _%_, _^_, _<_}
+use Prim.Native.Nat.{ℕ, zero, suc, _+_, _*_, _/_, _%_, _^_, _<_, _∣_}
 use native.Mathlib.Nat.{add-mod, mod-mod, zero-mod, add-mul-mod-self-right, mod-add-div', mod-eq-of-lt, pow-zero, pow-suc, mul-comm}
+use native.Mathlib.Nat.{dvd-mul-left, dvd-add-iff-left, div-mul-cancel}
 use native.Mathlib.Omega.{arith}
 use Rattle.algebra.specs.Sum.{sum}
 use Rattle.algebra.specs.SumLaws.{naturals, sum-none, sum-last, sum-single}
@@ -50,6 +51,16 @@ c-mod {m} {a} = record { same = mod-mod a m }
 
 pub c-multiple : {m : ℕ} (a q : ℕ) → Cong m (a + q * m) a
 c-multiple {m} a q = record { same = add-mul-mod-self-right a q m }
+
+-- m divides what may be added, and nothing else
+module _ {m a b : ℕ} where
+  pub c-added : m ∣ b → Cong m (a + b) a
+  c-added h = c-via (ap (λ (x : ℕ). a + x) (sym (div-mul-cancel _ h))) (c-multiple a (b / m)) refl
+
+  pub added-only : Cong m (a + b) a → m ∣ b
+  added-only e =
+      let quotients : b + a / m * m ≡ (a + b) / m * m = omega (arith, e .same, mod-add-div' a m, mod-add-div' (a + b) m) in
+      dvd-add-iff-left m (dvd-mul-left m (a / m)) .1 (rw quotients (dvd-mul-left m ((a + b) / m)))
 
 pub c-sum : {m n : ℕ} {f g : ℕ → ℕ} → ((i : ℕ) → i < n → Cong m (f i) (g i)) → Cong m (sum n f) (sum n g)
 c-sum {n = zero} {f} {g} h = c-eq (sum-none f ∙ sym (sum-none g))

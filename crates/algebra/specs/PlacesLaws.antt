@@ -1,7 +1,7 @@
 -- Laws of `table` and of `Written`: no store, one store, one more place of a run, two writes in a row, a part that was lent.
 use mathlib.Core.Path.{_≡_, refl, sym, ap, _∙_}
 use mathlib.Core.Logic.{_⊎_, inl, inr, ⊎-elim}
-use mathlib.Core.List.{List, [], _∷_, _++_}
+use mathlib.Core.List.{List, [], _∷_, _++_, append-assoc, append-nil}
 use Prim.Native.Nat.{ℕ, zero, suc, _+_, _-_, _<_, _≤_}
 use native.Mathlib.Decide.{ℕ-discrete, decLt}
 use native.Mathlib.Omega.{arith}
@@ -31,6 +31,21 @@ module _ {A : Type 0} where
   pub table-of : (d : A) (n : ℕ) (f : ℕ → A) (xs : List A) → length xs ≡ n → ((i : ℕ) → i < n → getD xs i d ≡ f i) → xs ≡ table n f
   table-of d n f xs e h =
       ext-getD d xs (table n f) (e ∙ sym (length-table n f)) (λ i l. h i (omega arith) ∙ sym (getD-table d n f i (omega arith)))
+
+  pub table-same : (n : ℕ) {f g : ℕ → A} → ((i : ℕ) → i < n → f i ≡ g i) → table n f ≡ table n g
+  unfolding table
+  table-same zero h = refl
+  table-same (suc n) {f} {g} h =
+      let before : table n f ≡ table n g = table-same n (λ i l. h i (omega arith)) in
+      rw (before, h n (omega arith))
+
+  -- a table in two parts
+  pub table-append : (m n : ℕ) (f : ℕ → A) → table (m + n) f ≡ table m f ++ table n (λ i. f (m + i))
+  unfolding table
+  table-append m zero f = let e : m + 0 ≡ m = omega arith in rw e (sym (append-nil (table m f)))
+  table-append m (suc n) f =
+      let e : m + suc n ≡ suc (m + n) = omega arith in
+      rw (e, table-append m n f) (append-assoc (table m f) (table n (λ i. f (m + i))) (f (m + n) ∷ []))
 
 -- a part of a list that was lent and came back
 module _ {A : Type 0} (d : A) (xs ys : List A) (a k : ℕ) (le : a + k ≤ length xs) (len : length ys ≡ k) where

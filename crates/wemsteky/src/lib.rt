@@ -10,6 +10,7 @@ ghost use Rattle.layer.specs.Shape.{tileTotal};
 ghost use Rattle.layer.specs.Numbers.{layerOf};
 ghost use Rattle.layer.specs.Checks.{planOf};
 ghost use Rattle.levels.specs.Answer.{levelsCode, levelsLeft};
+ghost use Rattle.noise.specs.Draw.{lastSeed, noiseLeft};
 ghost use Rattle.engine.specs.Call.{startOf};
 ghost use Rattle.wemsteky.specs.Figures.{planFigures, progressFigures, Reported};
 
@@ -94,4 +95,12 @@ pub extern "C" fn wemsteky_levels(
     ensures { λ _. ⌜ now (levels .exit) ≡ levelsLeft shift bound (now (outputs .entry)) (now (levels .entry)) ⌝ }
 {
     levels::levels(shift, bound, outputs, levels)
+}
+
+#[no_mangle]
+pub extern "C" fn wemsteky_noise(seed: u32, map: &mut [i16]) -> u32
+    ensures { λ r. ⌜ r ≡ lastSeed seed (now (map .entry)) ⌝ }
+    ensures { λ _. ⌜ now (map .exit) ≡ noiseLeft seed (now (map .entry)) ⌝ }
+{
+    noise::fill(seed, map)
 }
