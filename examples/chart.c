@@ -1,4 +1,4 @@
-/* A transposed convolution planned, run tile by tile, its outputs as levels, and a call that is refused; then a transform there and back. */
+/* A transposed convolution planned, run tile by tile, its outputs as levels, and a call that is refused; a transform there and back; noise. */
 #include <stdio.h>
 #include <string.h>
 
@@ -30,6 +30,15 @@ static size_t run_in_budgets(const size_t layer[14], const int16_t *kernel, size
         next = figures[1];
     } while (code == 0 && !figures[2]);
     return code;
+}
+
+/* Fills one map in two calls, the second given the first's last seed. */
+static void show_noise(uint32_t seed)
+{
+    int16_t noise[6];
+    seed = wemsteky_noise(seed, noise, 2);
+    seed = wemsteky_noise(seed, noise + 2, 4);
+    printf("noise %d %d %d %d %d %d, last seed %lu\n", noise[0], noise[1], noise[2], noise[3], noise[4], noise[5], (unsigned long)seed);
 }
 
 int main(void)
@@ -64,5 +73,7 @@ int main(void)
     printf("entry 16 of the transform %llu\n", (unsigned long long)there[16]);
     if ((code = wemsteky_inverse(4, there, 32)) != 0) return failed("inverse", code);
     printf("back %s\n", memcmp(there, words, sizeof words) == 0 ? "yes" : "no");
+
+    show_noise(0);
     return 0;
 }

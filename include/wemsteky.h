@@ -9,7 +9,7 @@
  *   top left h w: the first row and column kept of the full output, and how many of each
  *
  * Every function accepts any numbers, lengths and values. It returns 0, or the number of the first check that fails; a refused call changes
- * no output, scratch, words or levels.
+ * no output, scratch, words or levels. wemsteky_noise has no checks and returns a seed.
  *
  *   1 kind is not 0 or 1                  11 kernel length is not M C K K
  *   2 field is not 4 or 5                 12 output length is not M h w
@@ -55,6 +55,10 @@ size_t wemsteky_inverse(size_t field, uint64_t *words, size_t words_len);
 /* Check 20, then the level of each output: divided by 2 to the shift, to the nearest whole number, halves going away from zero, then clamped to
  * -bound and bound. */
 size_t wemsteky_levels(size_t shift, size_t bound, const int32_t *outputs, size_t outputs_len, int16_t *levels, size_t levels_len);
+
+/* Fills the map in order, one draw for each value. A draw replaces the seed by 1,664,525 times itself plus 1,013,904,223, modulo 2 to the 32;
+ * the value is the new seed divided by 16,777,216, rounded down, less 128. Returns the last seed, or the seed where the map is empty. */
+uint32_t wemsteky_noise(uint32_t seed, int16_t *map, size_t map_len);
 
 #ifdef __cplusplus
 }

@@ -1,4 +1,4 @@
-//! The six functions of include/wemsteky.h, behind slices.
+//! The seven functions of include/wemsteky.h, behind slices.
 
 mod c {
     extern "C" {
@@ -39,6 +39,7 @@ mod c {
             levels: *mut i16,
             levels_len: usize,
         ) -> usize;
+        pub fn wemsteky_noise(seed: u32, map: *mut i16, map_len: usize) -> u32;
     }
 }
 
@@ -112,4 +113,8 @@ pub fn inverse(field: usize, words: &mut [u64]) -> usize {
 
 pub fn levels(shift: usize, bound: usize, outputs: &[i32], levels: &mut [i16]) -> usize {
     called!(wemsteky_levels(shift, bound), read(outputs), written(levels))
+}
+
+pub fn noise(seed: u32, map: &mut [i16]) -> u32 {
+    called!(wemsteky_noise(seed), read(), written(map))
 }

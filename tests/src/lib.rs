@@ -15,6 +15,7 @@ pub mod kinds;
 pub mod layer;
 pub mod levels;
 pub mod list;
+pub mod noise;
 pub mod quick;
 pub mod random;
 pub mod rules;
