@@ -3,7 +3,7 @@
 
 use wemsteky_tests::call::Buffer;
 use wemsteky_tests::engine;
-use wemsteky_tests::noise::{fill, next_seed, SEEDS};
+use wemsteky_tests::noise::{fill, SEEDS};
 use wemsteky_tests::random::Random;
 
 /// Both ends of the seeds, the middle, and the seeds whose next ones are the ends.
@@ -68,5 +68,4 @@ fn the_seed_comes_back_after_every_other_one() {
         seed = engine::noise(seed, &mut map);
         assert_eq!(seed == first, call == calls, "call {call}");
     }
-    assert_eq!(next_seed(seed), engine::noise(first, &mut map[..1]));
 }

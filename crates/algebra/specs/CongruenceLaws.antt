@@ -52,13 +52,13 @@ c-mod {m} {a} = record { same = mod-mod a m }
 pub c-multiple : {m : ℕ} (a q : ℕ) → Cong m (a + q * m) a
 c-multiple {m} a q = record { same = add-mul-mod-self-right a q m }
 
--- m divides what may be added, and nothing else
+-- adding b changes no remainder by m where m divides b, and nowhere else
 module _ {m a b : ℕ} where
   pub c-added : m ∣ b → Cong m (a + b) a
   c-added h = c-via (ap (λ (x : ℕ). a + x) (sym (div-mul-cancel _ h))) (c-multiple a (b / m)) refl
 
-  pub added-only : Cong m (a + b) a → m ∣ b
-  added-only e =
+  pub c-added-only : Cong m (a + b) a → m ∣ b
+  c-added-only e =
       let quotients : b + a / m * m ≡ (a + b) / m * m = omega (arith, e .same, mod-add-div' a m, mod-add-div' (a + b) m) in
       dvd-add-iff-left m (dvd-mul-left m (a / m)) .1 (rw quotients (dvd-mul-left m ((a + b) / m)))
 

@@ -1,13 +1,13 @@
--- Signs: a number taken from 0, tests against 0, the size of a number below 0, and how far the difference of two reaches. It rests on the
--- definitions alone.
+-- Signs: a number taken from 0, tests against 0, the size of a number below 0, how far the difference of two reaches, and the range of a number.
+-- It rests on the definitions alone.
 use mathlib.Core.Path.{_≡_, refl, _∙_, subst}
 use mathlib.Core.Bool.{Bool, true, false, cond}
 use Prim.Native.Nat.{ℕ, zero, suc, _+_, _-_, _≤_, _<_}
 use native.Mathlib.Omega.{arith}
 use borrow.Author.Tests.{ltb-true}
-use lib.Dec.{T, ltb}
+use lib.Dec.{T, ltb, le→leb}
 use lib.IntN.{ℤ, pos, negsuc, negℤ, natAbs, sucℤ, _+ℤ_, _-ℤ_, +ℤ-idl, +ℤ-one, negℤ-negℤ}
-use lib.Signed.{mag, ltZ, nonNeg}
+use lib.Signed.{mag, ltZ, nonNeg, _≤ℤ_}
 
 pub zero-minus : (z : ℤ) → pos 0 -ℤ z ≡ negℤ z
 zero-minus z = +ℤ-idl (negℤ z)
@@ -51,3 +51,8 @@ difference-small a (suc b) n h k = go (ltb a (suc b))
     go : (t : Bool) → mag (cond t (negsuc (suc b - suc a)) (pos (a - suc b))) ≤ n
     go true = omega arith
     go false = omega arith
+
+-- z lies from −n − 1 to n
+pub mag-range : {n : ℕ} (z : ℤ) → mag z ≤ n → (negsuc n ≤ℤ z) × (z ≤ℤ pos n)
+mag-range {n} (pos m) l = (record { le = tt }, record { le = le→leb m n l })
+mag-range {n} (negsuc m) l = (record { le = le→leb m n l }, record { le = tt })

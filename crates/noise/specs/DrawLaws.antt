@@ -5,14 +5,13 @@ use mathlib.Core.List.{List, _++_}
 use Prim.Native.Nat.{ℕ, zero, suc, _+_, _/_, _≤_, _<_}
 use native.Mathlib.Nat.{mod-lt}
 use native.Mathlib.Omega.{arith}
-use lib.Dec.{le→leb}
-use lib.IntN.{ℤ, pos, negsuc, negℤ}
+use lib.IntN.{ℤ, pos, negℤ}
 use lib.ListN.{length, length-append}
 use lib.Signed.{mag, _≤ℤ_}
 use Rattle.algebra.specs.Places.{table}
 use Rattle.algebra.specs.PlacesLaws.{table-append, table-same}
-use Rattle.algebra.specs.SignLaws.{difference-small}
-use Rattle.noise.specs.Draw.{nextSeed, seedAfter, noiseValue, seeds, noiseLeft, lastSeed}
+use Rattle.algebra.specs.SignLaws.{difference-small, mag-range}
+use Rattle.noise.specs.Draw.{nextSeed, seedAfter, noiseValue, seedCount, noiseLeft, lastSeed}
 
 pub seed-none : (modulus seed : ℕ) → seedAfter modulus 0 seed ≡ seed
 unfolding seedAfter
@@ -40,33 +39,29 @@ seed-add modulus first (suc second) seed =
 
 module _ (seed : ℕ) (first second : List ℤ) where
   pub last-of-two : lastSeed seed (first ++ second) ≡ lastSeed (lastSeed seed first) second
-  last-of-two = rw (length-append first second) (seed-add seeds (length first) (length second) seed)
+  last-of-two = rw (length-append first second) (seed-add seedCount (length first) (length second) seed)
 
   -- a map filled by two calls, the second given the first's last seed, equals a single call over both
   pub map-of-two : noiseLeft seed (first ++ second) ≡ noiseLeft seed first ++ noiseLeft (lastSeed seed first) second
   map-of-two =
-      let value : ℕ → ℤ = λ place. noiseValue (seedAfter seeds (suc place) seed) in
+      let value : ℕ → ℤ = λ place. noiseValue (seedAfter seedCount (suc place) seed) in
       rw (length-append first second)
       (table-append (length first) (length second) value
       ∙ ap (λ (rest : List ℤ). table (length first) value ++ rest) (table-same (length second) (λ place l. later place)))
     where
       later : (place : ℕ)
-          → noiseValue (seedAfter seeds (suc (length first + place)) seed) ≡ noiseValue (seedAfter seeds (suc place) (lastSeed seed first))
+          → noiseValue (seedAfter seedCount (suc (length first + place)) seed) ≡ noiseValue (seedAfter seedCount (suc place) (lastSeed seed first))
       later place =
           let e : suc (length first + place) ≡ length first + suc place = omega arith in
-          ap noiseValue (rw e (seed-add seeds (length first) (suc place) seed))
+          ap noiseValue (rw e (seed-add seedCount (length first) (suc place) seed))
 
 -- ---- the range of a value
 
-pub value-small : (seed : ℕ) → seed < seeds → mag (noiseValue seed) ≤ 127
+pub value-small : (seed : ℕ) → seed < seedCount → mag (noiseValue seed) ≤ 127
 unfolding noiseValue
 value-small seed l = difference-small (seed / 16777216) 128 127 (omega arith) (omega arith)
 
-within : (z : ℤ) → mag z ≤ 127 → (negℤ (pos 128) ≤ℤ z) × (z ≤ℤ pos 127)
-within (pos n) l = (record { le = tt }, record { le = le→leb n 127 l })
-within (negsuc n) l = (record { le = le→leb n 127 l }, record { le = tt })
-
 -- the value of a draw lies in −128 to 127
 pub value-within : (draws seed : ℕ) →
-    let value = noiseValue (seedAfter seeds (suc draws) seed) in (negℤ (pos 128) ≤ℤ value) × (value ≤ℤ pos 127)
-value-within draws seed = within _ (value-small _ (seed-below seeds (suc draws) seed (omega arith) (omega arith)))
+    let value = noiseValue (seedAfter seedCount (suc draws) seed) in (negℤ (pos 128) ≤ℤ value) × (value ≤ℤ pos 127)
+value-within draws seed = mag-range _ (value-small _ (seed-below seedCount (suc draws) seed (omega arith) (omega arith)))

@@ -1,5 +1,5 @@
--- Maps of given seeds: one table of cases under one theorem, by computation with the definition. It holds both ends of the seeds, a seed that is
--- drawn as 0 and one that is drawn as 4,294,967,295, and both values on either side of 0.
+-- Maps of given seeds: one table of cases under one theorem, by computation with the definition. It holds both ends of the seeds, an empty map,
+-- draws of 0 and of 4,294,967,295, and the draws on either side of half of the seeds, whose values are −1 and 0.
 use mathlib.Core.Path.{_≡_, refl}
 use mathlib.Core.List.{List, [], _∷_}
 use Prim.Native.Nat.{ℕ}
@@ -29,7 +29,7 @@ cases =
     -- the first seed drawn is 0, or the greatest one
     ∷ case 634785765 (minus 128 ∷ minus 68 ∷ []) 1013904223
     ∷ case 653637408 (pos 127 ∷ minus 68 ∷ []) 1012239698
-    -- it is the greatest one below half of the seeds, or half of them
+    -- it is the greatest one below half of the seedCount, or half of them
     ∷ case 2801121056 (minus 1 ∷ pos 60 ∷ []) 3159723346
     ∷ case 2782269413 (pos 0 ∷ pos 60 ∷ []) 3161387871
     ∷ []

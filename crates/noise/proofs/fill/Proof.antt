@@ -11,21 +11,21 @@ use mir.Syntax.{w16}
 use mir.Val.{toZ, ofZ}
 use Rattle.algebra.specs.Places.{Written, Run}
 use Rattle.algebra.specs.PlacesLaws.{table-of, written-nothing, written-longer}
-use Rattle.noise.specs.Draw.{seedAfter, noiseValue, seeds}
+use Rattle.noise.specs.Draw.{seedAfter, noiseValue, seedCount}
 use Rattle.noise.specs.DrawLaws.{seed-none, seed-next}
 use Rattle.noise.proofs.fill.Statement.{statement}
 use Rattle.noise.proofs.fill.Tie as tie
 
 abbrev Inv-loop : tie.InvT-loop
 Inv-loop seed map₀ drawn₀ i₀ map drawn i =
-    (i ≤ length map₀) × (drawn ≡ seedAfter seeds i seed)
-    × Written (pos 0) (Run 0 i) (λ place. noiseValue (seedAfter seeds (suc place) seed)) map₀ map
+    (i ≤ length map₀) × (drawn ≡ seedAfter seedCount i seed)
+    × Written (pos 0) (Run 0 i) (λ place. noiseValue (seedAfter seedCount (suc place) seed)) map₀ map
 
 abbrev μ-loop : tie.MeasureT-loop
 μ-loop seed map₀ drawn₀ i₀ map drawn i = length map₀ - i
 
 loop-holds : tie.Need-loop-holds Inv-loop μ-loop
-loop-holds c = (omega arith, sym (seed-none seeds (c .args .seed)), written-nothing (λ p h. omega arith))
+loop-holds c = (omega arith, sym (seed-none seedCount (c .args .seed)), written-nothing (λ p h. omega arith))
 
 next-seed-requires : tie.Need-next-seed-requires Inv-loop μ-loop
 next-seed-requires c κs = search needs
@@ -47,15 +47,15 @@ loop-less c = search needs
 
 -- the new seed is the seed after one draw more
 drawn-next : (c : tie.After-next-seed Inv-loop μ-loop) →
-    let turn = c .before .before in c .next-seed .result ≡ seedAfter seeds (suc (turn .loop .i)) (turn .before .args .seed)
+    let turn = c .before .before in c .next-seed .result ≡ seedAfter seedCount (suc (turn .loop .i)) (turn .before .args .seed)
 drawn-next c =
     let turn = c .before .before in
-    (rw (turn .loop .inv .1) at (c .next-seed .ensures)) ∙ sym (seed-next seeds (turn .loop .i) (turn .before .args .seed))
+    (rw (turn .loop .inv .1) at (c .next-seed .ensures)) ∙ sym (seed-next seedCount (turn .loop .i) (turn .before .args .seed))
 
 -- and its value is what is written
 written : (c : tie.After-value-of Inv-loop μ-loop) →
     let turn = c .before .before .before in
-    toZ w16 (ofZ w16 (c .value-of .result)) ≡ noiseValue (seedAfter seeds (suc (turn .loop .i)) (turn .before .args .seed))
+    toZ w16 (ofZ w16 (c .value-of .result)) ≡ noiseValue (seedAfter seedCount (suc (turn .loop .i)) (turn .before .args .seed))
 written c = toZ-ofZ (sfits-of (c .value-of .ok)) ∙ c .value-of .ensures ∙ ap noiseValue (drawn-next (c .before))
 
 loop-again : tie.Need-loop-again Inv-loop μ-loop

@@ -1,4 +1,4 @@
--- The eight high bits are at most 255, so that the difference fits.
+-- The eight high bits fit 16 signed bits, and so does the value.
 use Prim.Native.Nat.{_/_, _<_}
 use native.Mathlib.Omega.{arith}
 use borrow.Author.Needs.{needs}
