@@ -1,14 +1,19 @@
--- Laws of `table` and of `Written`: no store, one store, one more place of a run, two writes in a row, a part that was lent.
+-- Laws of places, of `table` and of `Written`: no store, one store, one more place of a run, two writes in a row, a part that was lent.
 use mathlib.Core.Path.{_≡_, refl, sym, ap, _∙_}
 use mathlib.Core.Logic.{_⊎_, inl, inr, ⊎-elim}
 use mathlib.Core.List.{List, [], _∷_, _++_, append-assoc, append-nil}
-use Prim.Native.Nat.{ℕ, zero, suc, _+_, _-_, _<_, _≤_}
+use Prim.Native.Nat.{ℕ, zero, suc, _+_, _*_, _-_, _<_, _≤_}
 use native.Mathlib.Decide.{ℕ-discrete, decLt}
+use native.Mathlib.Nat.{mul-le-mul-right, suc-mul}
 use native.Mathlib.Omega.{arith}
 use lib.ListN.{length, getD, set, length-set, length-append, take, drop, length-drop, List·getD-append}
 use lib.Seq.{ext-getD, getD-set-same, getD-set-other, length-take-le, getD-append-add, getD-take, getD-drop}
 use borrow.Rule.Slice.PartMut.{midOf, putMid, same-len-mid}
 use Rattle.algebra.specs.Places.{table, Written, Run, Changed}
+
+-- part k of n parts of one size ends within them
+pub part-ends : (k n size : ℕ) → k < n → k * size + size ≤ n * size
+part-ends k n size l = omega (arith, mul-le-mul-right size l, suc-mul k size)
 
 module _ {A : Type 0} where
   pub length-table : (n : ℕ) (f : ℕ → A) → length (table n f) ≡ n

@@ -2,7 +2,7 @@
 -- Rests on the definitions of Sum alone.
 use mathlib.Core.Path.{_≡_, refl, sym, ap, ap₂, _∙_}
 use mathlib.Core.Logic.{_≢_}
-use Prim.Native.Nat.{ℕ, zero, suc, _+_, _*_, _-_, _<_}
+use Prim.Native.Nat.{ℕ, zero, suc, _+_, _*_, _-_, _<_, _≤_}
 use native.Mathlib.Nat.{zero-add, add-zero, add-suc, add-assoc, add-comm, mul-zero, mul-add, add-mul, zero-mul, suc-mul}
 use native.Mathlib.Decide.{ℕ-discrete}
 use native.Mathlib.Omega.{arith}
@@ -109,6 +109,13 @@ module _ {A : Type 0} (S : Addition A) where
   sum-split a (suc b) f =
       ap (λ n. S .total n f) (add-suc a b) ∙ S .total-last (a + b) f ∙ ap (λ z. S .plus z (f (a + b))) (sum-split a b f)
       ∙ S .plus-assoc (S .total a f) (S .total b (λ i. f (a + i))) (f (a + b)) ∙ ap (S .plus (S .total a f)) (sym (S .total-last b (λ i. f (a + i))))
+
+  -- summands that are none from n on change nothing
+  pub sum-short : (n m : ℕ) (f : ℕ → A) → n ≤ m → ((i : ℕ) → n ≤ i → i < m → f i ≡ S .none) → S .total m f ≡ S .total n f
+  sum-short n m f l none =
+      let rest : m ≡ n + (m - n) = omega arith in
+      ap (λ k. S .total k f) rest ∙ sum-split n (m - n) f
+      ∙ ap (S .plus (S .total n f)) (sum-zero (m - n) _ (λ i k. none (n + i) (omega arith) (omega arith))) ∙ plus-none-right (S .total n f)
 
   -- a sum over a rows of b is a sum over flat places
   pub sum-flat : (a b : ℕ) (f : ℕ → A) → S .total a (λ i. S .total b (λ j. f (i * b + j))) ≡ S .total (a * b) f

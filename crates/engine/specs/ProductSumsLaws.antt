@@ -13,6 +13,7 @@ use Rattle.layer.specs.declared.shape.Layer.{Layer}
 use Rattle.layer.specs.Shape.{fullSize, fullHeight, fullWidth}
 use Rattle.layer.specs.ShapeLaws.{same-shape}
 use Rattle.layer.specs.Direct.{cell, conv, tconv, fullAt, directAt, productSum}
+use Rattle.layer.specs.FullLaws.{full-conv, full-tconv}
 use Rattle.layer.specs.ChecksLaws.{Planned, planned, conv-room}
 use Rattle.layer.specs.TripleSums.{sum3-cong}
 use Rattle.layer.specs.ProductLaws.{product-law}
@@ -44,19 +45,6 @@ full-cell {l} {map} {kernel} list reaches whole m i j channel row column =
     (getD-table (pos 0) (length (list .first)) (directAt l map kernel) _ (omega (arith, size))
     ∙ direct-cell l map kernel m i j down across
     ∙ ap₂ (fullAt l map kernel m) (omega (arith, whole .top)) (omega (arith, whole .left)))
-
--- ---- the two kinds
-
-module _ (l : Layer) (map kernel : List ℤ) (m i j : ℕ) where
-  full-conv : l .kind ≡ 0
-      → fullAt l map kernel m i j ≡ conv (l .inputs) (l .height) (l .width) (l .side) (l .stride) (l .padding) map kernel m i j
-  unfolding fullAt
-  full-conv e = rw eq-eqb
-
-  full-tconv : l .kind ≡ 1
-      → fullAt l map kernel m i j ≡ tconv (l .inputs) (l .outputs) (l .height) (l .width) (l .side) (l .stride) (l .padding) map kernel m i j
-  unfolding fullAt
-  full-tconv e = rw (ne-eqb (l .kind) 0 (λ z. omega arith))
 
 -- ---- two layers that are paired: `forward` is CONV, `backward` is TCONV
 

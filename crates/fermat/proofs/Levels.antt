@@ -10,12 +10,12 @@ use lib.ListN.{length, getD, take, drop, length-drop}
 use lib.Pow.{pow-pos}
 use lib.Seq.{getD-take, getD-drop, length-take-le}
 use Rattle.algebra.specs.CongruenceLaws.{c-eq, c-refl}
+use Rattle.algebra.specs.PlacesLaws.{part-ends}
 use Rattle.fermat.specs.Butterfly.{Bound, Parted, Made, AtMost, Staged}
 use Rattle.fermat.specs.Halving.{word, Grid, Filled}
 use Rattle.fermat.specs.declared.butterfly.Step.{Step}
 use Rattle.fermat.specs.declared.butterfly.Step.the-variants.{Forward, Inverse}
 use Rattle.fermat.proofs.Words.{one-shl, bound-times}
-use Rattle.fermat.proofs.Stages.{row-le}
 
 -- the numbers of a level that is not the last, and of the next one
 pub record Level (n lanes l unit b c : ℕ) : Type 0 where
@@ -99,7 +99,7 @@ pub staged-row : (step : Step) (b c unit rows lanes half : ℕ) (xs ys : List �
     → (r j : ℕ) → r < rows → j < lanes
     → Made step b c (unit * r) (word lanes r j xs) (getD xs (half + (r * lanes + j)) 0) (word lanes r j ys) (getD ys (half + (r * lanes + j)) 0)
 staged-row step b c unit rows lanes half xs ys inside staged r j lr lj =
-    let last : r * lanes + j < rows * lanes = omega (arith, row-le r rows lanes lr) in
+    let last : r * lanes + j < rows * lanes = omega (arith, part-ends r rows lanes lr) in
     rw (digits-div r {m = lanes} {r = j} lj) at (staged (r * lanes + j) (omega arith) .here (omega arith, omega arith))
 
 -- an inverse stage over all rows
@@ -151,7 +151,7 @@ module _ (b c unit h half lanes filled rows : ℕ) (xs ys : List ℕ) (eh : half
   all-parted r j lr lj = go (decLt r rows)
     where
       last : r * lanes + j < half
-      last = omega (arith, row-le r h lanes lr)
+      last = omega (arith, part-ends r h lanes lr)
 
       zeros : Parted (2 ^ b + 1) (2 * c) (2 ^ (unit * r)) 0 0 0 0
       zeros = record { plus = c-refl; minus = c-eq (omega (arith, zero-mul (2 ^ (unit * r)))); low = omega arith; high = omega arith }

@@ -8,6 +8,7 @@ use native.Mathlib.Omega.{arith}
 use lib.ListN.{length, getD, take, drop, List·getD-append}
 use lib.Pow.{pow-add}
 use lib.Seq.{getD-take, getD-drop, getD-append-add}
+use Rattle.algebra.specs.PlacesLaws.{part-ends}
 use Rattle.algebra.specs.SumLaws.{sum-none, sum-last}
 use Rattle.algebra.specs.PowerLaws.{pow-mul}
 use Rattle.algebra.specs.Congruence.{Cong}
@@ -20,7 +21,6 @@ use Rattle.fermat.specs.RootLaws.{inverse-pow}
 use Rattle.fermat.specs.TransformLaws.{c-power-sum}
 use Rattle.fermat.specs.HalvingLaws.{evens, odds, halve-low, halve-high, by-sums, by-differences}
 use Rattle.fermat.specs.OrderLaws.{reversed-even, reversed-odd, reversed-lt}
-use Rattle.fermat.proofs.Stages.{row-le}
 
 -- a transform of length 1
 power-sum-one : (w : ℕ) (x : ℕ → ℕ) (k : ℕ) → powerSum (2 ^ 0) w x k ≡ x 0
@@ -81,7 +81,7 @@ joined-high {m} {z} {e} {o} {E} {O} {D} t s minus h ce co d =
 
 module _ (b unit l half lanes : ℕ) (size : half ≡ 2 ^ l * lanes) (turns : unit * 2 ^ l ≡ b) where
   row-lt : (i j : ℕ) → i < 2 ^ l → j < lanes → i * lanes + j < half
-  row-lt i j li lj = omega (arith, row-le i (2 ^ l) lanes li)
+  row-lt i j li lj = omega (arith, part-ends i (2 ^ l) lanes li)
 
   -- the rows of the second half
   second-row : (xs : List ℕ) (i j : ℕ) → getD xs (half + (i * lanes + j)) 0 ≡ word lanes (i + 2 ^ l) j xs

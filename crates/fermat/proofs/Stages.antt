@@ -3,21 +3,18 @@ use mathlib.Core.Path.{_≡_, sym, ap, _∙_, subst}
 use mathlib.Core.Logic.{_⊎_, inl, inr}
 use mathlib.Core.List.{List}
 use Prim.Native.Nat.{ℕ, suc, _+_, _-_, _*_, _/_, _^_, _<_, _≤_}
-use native.Mathlib.Nat.{suc-mul, zero-mul, mul-suc, mul-zero, mul-le-mul-left, mul-le-mul-right}
+use native.Mathlib.Nat.{zero-mul, mul-suc, mul-zero, mul-le-mul-left}
 use native.Mathlib.Decide.{decLt}
 use native.Mathlib.Omega.{arith}
 use lib.Arith.{digits-div}
 use lib.ListN.{length}
 use Rattle.algebra.specs.Places.{Run}
+use Rattle.algebra.specs.PlacesLaws.{part-ends}
 use Rattle.fermat.specs.Butterfly.{Relation, Made, Ready, Paired, PairsAtMost, AtMost, Staged, Joined}
 use Rattle.fermat.specs.declared.butterfly.Step.{Step}
 use Rattle.fermat.specs.declared.butterfly.Step.the-variants.{Plain, Forward, Inverse}
 use Rattle.fermat.proofs.Words.{plain-inverse}
 use Rattle.fermat.proofs.Pairs.{paired-nothing, paired-again}
-
--- rows before row r end before it begins
-pub row-le : (q r n : ℕ) → q < r → q * n + n ≤ r * n
-row-le q r n l = let h : suc q * n ≤ r * n = mul-le-mul-right n l in omega (arith, suc-mul q n)
 
 pub unit-le : (unit r n : ℕ) → r < n → unit * r + unit ≤ unit * n
 unit-le unit r n l = let h : unit * suc r ≤ unit * n = mul-le-mul-left unit l in omega (arith, mul-suc unit r)
@@ -68,7 +65,7 @@ module _ (step : Step) (b c unit half lanes : ℕ) where
       (λ i p q. omega arith)
       (λ i h. to i h (decLt i (r * lanes)))
       (λ i p. (p .0, omega (arith, next)))
-      (λ i q. (omega (arith, row-le 0 r lanes some, zero-mul lanes), omega (arith, next)))
+      (λ i q. (omega (arith, part-ends 0 r lanes some, zero-mul lanes), omega (arith, next)))
       (λ i u v y z q made. subst (λ (e : ℕ). Made step b c e u v y z) (et ∙ ap (λ (k : ℕ). unit * k) (sym (row-of r lanes i (here i q)))) made)
     where
       next : (r + 1) * lanes ≡ r * lanes + lanes
@@ -89,7 +86,7 @@ module _ (step : Step) (b c unit half lanes : ℕ) where
       (λ i p q. omega arith)
       (λ i h. to i h (decLt i lanes))
       (λ i p. (omega arith, omega arith))
-      (λ i q. (omega arith, omega (arith, row-le 0 rows lanes some, zero-mul lanes)))
+      (λ i q. (omega arith, omega (arith, part-ends 0 rows lanes some, zero-mul lanes)))
       (λ i u v y z q made. plain-made step b c (unit * (i / lanes)) (ap (λ (k : ℕ). unit * k) (row-of 0 lanes i (first i q)) ∙ mul-zero unit) made)
     where
       first : (i : ℕ) → Run 0 lanes i → Run (0 * lanes) lanes i

@@ -1,30 +1,20 @@
--- The kernel by planes: plane p is the run of K² weights from p·K² on, it lies within the kernel, and the sum of the sizes over the run is the
--- double sum over the plane's rows and columns. It rests on the laws of sums.
+-- The kernel by planes: plane p is the run of K² weights from p·K² on, and the sum of the sizes over the run is the double sum over the plane's
+-- rows and columns. It rests on the laws of sums.
 use mathlib.Core.Path.{_≡_, sym, ap, _∙_}
 use mathlib.Core.List.{List}
 use Prim.Native.Nat.{ℕ, _+_, _*_, _-_, _≤_, _<_}
-use native.Mathlib.Nat.{mul-le-mul-right, suc-mul}
 use native.Mathlib.Omega.{arith}
 use lib.IntN.{ℤ, pos, natAbs}
 use lib.ListN.{length, getD, take, drop, length-take, length-drop}
 use lib.Seq.{getD-take, getD-drop}
 use Rattle.algebra.specs.Sum.{sum}
-use Rattle.algebra.specs.SumLaws.{naturals, sum-cong}
+use Rattle.algebra.specs.SumLaws.{naturals, sum-cong, sum-flat}
 use Rattle.layer.specs.Direct.{cell}
 use Rattle.layer.specs.Weights.{sizeSum}
-use Rattle.algebra.specs.SumLaws.{sum-flat}
 
 -- the sum of the sizes over plane p, as the load has it
 abbrev pub planeSize : (K : ℕ) → List ℤ → (p : ℕ) → ℕ
 planeSize K kernel p = sum K (λ a. sum K (λ b. natAbs (cell K K kernel p a b)))
-
--- ---- the place of a plane
-
--- plane p of n planes ends within them
-pub plane-ends : (p n area : ℕ) → p < n → p * area + area ≤ n * area
-plane-ends p n area h = omega (arith, mul-le-mul-right area h, suc-mul p area)
-
--- ---- the sum over a plane
 
 -- n values from `from` on, as the code lends them
 abbrev pub part : List ℤ → (from n : ℕ) → List ℤ

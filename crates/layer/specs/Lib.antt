@@ -7,6 +7,7 @@ pub mod Weights
 pub mod Checks
 -- laws
 pub mod ShapeLaws
+pub mod FullLaws
 pub mod ChecksLaws
 pub mod TileSizes
 pub mod CountLaws
@@ -15,5 +16,6 @@ pub mod WindowLaws
 pub mod TripleSums
 pub mod ProductLaws
 pub mod Weighed
+pub mod EveryLaws
 pub mod LoadLaws
 pub mod Charts

@@ -1,7 +1,7 @@
 -- The load of an output channel bounds the size of its direct sums, so that a sum whose load is within the limit is read back from its
 -- residue. Rules 15 and 16 bound every map value and the load of every output channel. It rests on the one form of both kinds in Weighed,
 -- and on the sizes of sums.
-use mathlib.Core.Path.{_≡_, refl, ap, _∙_}
+use mathlib.Core.Path.{_≡_, refl}
 use mathlib.Core.Bool.{Bool, true, false, cond}
 use mathlib.Core.List.{List, [], _∷_}
 use Prim.Native.Nat.{ℕ, zero, suc, _+_, _*_, _/_, _%_, _<_, _≤_}
@@ -22,7 +22,8 @@ use Rattle.fermat.specs.RulesLaws.{both-true}
 use Rattle.layer.specs.declared.shape.Layer.{Layer}
 use Rattle.layer.specs.Shape.{isConv}
 use Rattle.layer.specs.Direct.{when, within, cell, fullAt}
-use Rattle.layer.specs.Load.{planeOf, load, loadLimit, every, loadsFit, withinPeak}
+use Rattle.layer.specs.Load.{planeOf, load, loadLimit, loadsFit, withinPeak}
+use Rattle.layer.specs.EveryLaws.{every-at}
 use Rattle.layer.specs.WindowLaws.{spread}
 use Rattle.layer.specs.Weighed.{weighed, metBy, full-weighed}
 
@@ -66,21 +67,10 @@ peak-bounds peak [] e n = omega arith
 peak-bounds peak (value ∷ values) e zero = leb-true (natAbs value) peak (both-true (leb (natAbs value) peak) (withinPeak peak values) e .0)
 peak-bounds peak (value ∷ values) e (suc n) = peak-bounds peak values (both-true (leb (natAbs value) peak) (withinPeak peak values) e .1) n
 
-every-holds : (n : ℕ) (test : ℕ → Bool) → every n test ≡ true → (i : ℕ) → i < n → test i ≡ true
-every-holds zero test e i l = absurd (omega arith)
-every-holds (suc n) test e i l = go (ℕ-discrete i n) (every-holds n test (both .0) i)
-  where
-    both : (every n test ≡ true) × (test n ≡ true)
-    both = both-true (every n test) (test n) e
-
-    go : Dec (i ≡ n) → (i < n → test i ≡ true) → test i ≡ true
-    go (yes same) before = ap test same ∙ both .1
-    go (no other) before = before (omega arith)
-
 -- rule 16, of one output channel
 pub load-fits : (l : Layer) (kernel : List ℤ) → loadsFit l kernel ≡ true → (m : ℕ) → m < l .outputs → load l kernel m ≤ loadLimit (l .field)
 unfolding loadsFit
-load-fits l kernel e m h = leb-true _ _ (every-holds (l .outputs) (λ m. leb (load l kernel m) (loadLimit (l .field))) e m h)
+load-fits l kernel e m h = leb-true _ _ (every-at (l .outputs) (λ m. leb (load l kernel m) (loadLimit (l .field))) e m h)
 
 module _ (l : Layer) (map kernel : List ℤ) (strided : 0 < l .stride) (bounded : (n : ℕ) → natAbs (getD map n (pos 0)) ≤ l .peak) where
   size-met : (i j c a b : ℕ) → natAbs (metBy l map i j c a b) ≤ l .peak

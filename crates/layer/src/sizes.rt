@@ -15,9 +15,9 @@ pub fn map_count(layer: Layer) -> usize
     layer.inputs * layer.height * layer.width
 }
 
-// Weights: M·C·K².
+// Weights: M·C·K². The side of two kernels joined is up to 21.
 pub fn kernel_count(layer: Layer) -> usize
-    requires { ⌜ InRange layer ⌝ }
+    requires { ⌜ (layer .inputs ≤ 64) × (layer .outputs ≤ 64) × (layer .side ≤ 21) ⌝ }
     ensures { λ r. ⌜ r ≡ kernelCount layer ⌝ }
 {
     layer.outputs * layer.inputs * (layer.side * layer.side)

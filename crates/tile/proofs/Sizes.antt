@@ -4,6 +4,7 @@ use native.Mathlib.Nat.{mul-le-mul, mod-lt}
 use native.Mathlib.Omega.{arith}
 use lib.Arith.{digits-lt}
 use lib.Pow.{pow-mono}
+use Rattle.algebra.specs.PlacesLaws.{part-ends}
 use Rattle.fermat.specs.Field.{modulus}
 use Rattle.layer.specs.declared.shape.Layer.{Layer}
 use Rattle.layer.specs.Shape.{transformLength, tileRows, tileColumns}
@@ -21,9 +22,7 @@ module _ (l : Layer) (r : InRange l) where
   -- the end of a plane of the kernel
   pub plane-end : (plane : ℕ) → plane < l .outputs * l .inputs
       → plane * (l .side * l .side) + l .side * l .side ≤ l .outputs * l .inputs * (l .side * l .side)
-  plane-end plane h =
-      let count : ℕ = l .side * l .side in
-      omega (arith, mul-le-mul {n₁ = plane + 1} {m₁ = count} {n₂ = l .outputs * l .inputs} {m₂ = count} (omega arith) (omega arith))
+  plane-end plane h = part-ends plane (l .outputs * l .inputs) (l .side * l .side) h
 
   -- a corner has room for the weights
   pub corner-room : l .side * l .side ≤ transformLength l * l .side
@@ -36,10 +35,6 @@ module _ (l : Layer) (r : InRange l) where
   pub map-place : (channel y x : ℕ) → channel < l .inputs → y < l .height → x < l .width
       → (channel * l .height + y) * l .width + x < l .inputs * l .height * l .width
   map-place channel y x h k f = digits-lt (map-row channel y h k) f
-
--- row u of n rows of n ends within them
-pub row-end : (n u : ℕ) → u < n → u * n + n ≤ n * n
-row-end n u h = omega (arith, mul-le-mul {n₁ = u + 1} {m₁ = n} {n₂ = n} {m₂ = n} (omega arith) (omega arith))
 
 -- the row and the column of tiles that a tile stands in
 module _ (l : Layer) (planned : Planned l) (t : ℕ) where

@@ -6,7 +6,8 @@ use native.Mathlib.Omega.{arith}
 use borrow.Author.Needs.{needs}
 use lib.ListN.{length}
 use denote.Ref.{now}
-use Rattle.fermat.proofs.Stages.{row-le, unit-le, ready, pairs-lent, Rows, rows-none, rows-longer, rows-all}
+use Rattle.algebra.specs.PlacesLaws.{part-ends}
+use Rattle.fermat.proofs.Stages.{unit-le, ready, pairs-lent, Rows, rows-none, rows-longer, rows-all}
 use Rattle.fermat.proofs.butterfly.stage.Statement.{statement}
 use Rattle.fermat.proofs.butterfly.stage.Tie as tie
 
@@ -27,7 +28,7 @@ within c =
     let a = s .args in
     let loop = c .before .loop in
     let size = s .pre .1 .0 in
-    let row = row-le (loop .r) (a .rows) (a .lanes) (c .loop-test .taken) in
+    let row = part-ends (loop .r) (a .rows) (a .lanes) (c .loop-test .taken) in
     let turn = unit-le (a .unit) (loop .r) (a .rows) (c .loop-test .taken) in
     let some = unit-le (a .unit) 0 (loop .r) (loop .inv .0) in
     (omega (arith, row, size .inside), omega (arith, turn, size .turns), omega (arith, some, size .step), omega (arith, turn, size .turns, size .step))
@@ -90,7 +91,7 @@ butterflies-requires-2 c κs =
     let loop = c .before .before .loop in
     let s = c .before .before .before .before in
     let a = s .args in
-    let row = row-le 0 (a .rows) (a .lanes) (s .pre .1 .0 .some) in (
+    let row = part-ends 0 (a .rows) (a .lanes) (s .pre .1 .0 .some) in (
       s .pre .0,
       (
         (loop .inv .4 ∙ s .pre .1 .0 .whole, omega (arith, row, s .pre .1 .0 .inside), s .pre .0 .half .bits-low),

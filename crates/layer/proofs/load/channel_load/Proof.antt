@@ -8,9 +8,10 @@ use borrow.Author.Needs.{needs}
 use lib.ListN.{length}
 use Rattle.algebra.specs.Sum.{sum}
 use Rattle.algebra.specs.SumLaws.{sum-none, sum-last}
+use Rattle.algebra.specs.PlacesLaws.{part-ends}
 use Rattle.layer.specs.Load.{planeOf, load}
 use Rattle.layer.specs.LoadLaws.{plane-below}
-use Rattle.layer.proofs.Planes.{planeSize, plane-ends, plane-size, part-length}
+use Rattle.layer.proofs.Planes.{planeSize, plane-size, part-length}
 use Rattle.layer.proofs.load.channel_load.Statement.{statement}
 use Rattle.layer.proofs.load.channel_load.Tie as tie
 
@@ -56,7 +57,7 @@ plane-small : (c : tie.Then1 Inv-loop μ-loop) → plane c < 4096
 plane-small c = omega (arith, plane-in c, mul-le-mul (start c .pre .0 .outputs-most) (start c .pre .0 .inputs-most))
 
 run-ends : (c : tie.Then1 Inv-loop μ-loop) → plane c * area c + area c ≤ length (start c .args .kernel .now)
-run-ends c = omega (arith, plane-ends (plane c) _ (area c) (plane-in c), start c .pre .0 .weights)
+run-ends c = omega (arith, part-ends (plane c) _ (area c) (plane-in c), start c .pre .0 .weights)
 
 mul-from : tie.Need-mul-from Inv-loop μ-loop
 mul-from c = omega (arith, plane-small (c .before))

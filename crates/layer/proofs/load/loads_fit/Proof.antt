@@ -1,10 +1,9 @@
--- `loads_fit` holds channel after channel against the limit: `fit` says it of the channels before m. It rests on the definition of `every`.
-use mathlib.Core.Path.{_≡_, refl, sym, _∙_}
-use mathlib.Core.Bool.{Bool, true, false, and-true, and-false}
+-- `loads_fit` holds channel after channel against the limit: `fit` says it of the channels before m. It rests on the laws of `every`.
+use mathlib.Core.Path.{_≡_, refl, _∙_}
+use mathlib.Core.Bool.{Bool}
 use mathlib.Core.List.{List}
 use mathlib.Core.Logic.{⊎-elim}
 use Prim.Native.Nat.{ℕ, _+_, _-_, _≤_}
-use native.Mathlib.Numerals.{add-one}
 use native.Mathlib.Omega.{arith}
 use borrow.Author.Needs.{needs}
 use borrow.Author.Tests.{le-leb, lt-leb}
@@ -12,6 +11,7 @@ use lib.Dec.{leb}
 use lib.IntN.{ℤ}
 use Rattle.layer.specs.declared.shape.Layer.{Layer}
 use Rattle.layer.specs.Load.{load, loadLimit, every, loadsFit}
+use Rattle.layer.specs.EveryLaws.{every-fails, every-holds}
 use Rattle.layer.proofs.load.loads_fit.Statement.{statement}
 use Rattle.layer.proofs.load.loads_fit.Tie as tie
 
@@ -24,14 +24,6 @@ Inv-loop layer kernel limit fit₀ m₀ fit m = (m ≤ layer .outputs) × (fit �
 
 abbrev μ-loop : tie.MeasureT-loop
 μ-loop layer kernel limit fit₀ m₀ fit m = layer .outputs - m
-
--- one test more: it fails, or it changes nothing
-module _ (test : ℕ → Bool) (m : ℕ) where
-  every-fails : test m ≡ false → false ≡ every (m + 1) test
-  every-fails e = rw (add-one, e) (sym (and-false (every m test)))
-
-  every-holds : test m ≡ true → every m test ≡ every (m + 1) test
-  every-holds e = rw (add-one, e) (sym (and-true (every m test)))
 
 load-limit-requires : tie.Need-load-limit-requires Inv-loop μ-loop
 load-limit-requires c κs = search needs

@@ -3,13 +3,13 @@ use mathlib.Core.Path.{_≡_}
 use Prim.Native.Nat.{_+_, _*_, _-_, _≤_}
 use native.Mathlib.Omega.{arith}
 use borrow.Author.Needs.{needs}
+use Rattle.algebra.specs.PlacesLaws.{part-ends}
 use Rattle.algebra.specs.Places.{Run}
 use Rattle.fermat.specs.Field.{modulus}
 use Rattle.layer.specs.TileSizes.{length-high}
 use Rattle.layer.specs.Shape.{transformLength}
 use Rattle.tile.specs.Loaded.{Loaded}
 use Rattle.tile.proofs.WindowRows.{windowOf, next-row, windowed}
-use Rattle.tile.proofs.Sizes.{row-end}
 use Rattle.tile.proofs.Loads.{loaded-none}
 use Rattle.tile.proofs.window.load_window.Statement.{statement}
 use Rattle.tile.proofs.window.load_window.Tie as tie
@@ -36,7 +36,7 @@ fits : (c : tie.In-loop Inv-loop μ-loop) → let n = transformLength (c .before
     c .before .loop .u * c .before .before .before .points-of .result + n ≤ n * n
 fits c =
     let n = c .before .before .before .points-of .ensures in
-    rw n (row-end _ (c .before .loop .u) (omega (arith, n, c .loop-test .taken)))
+    rw n (part-ends (c .before .loop .u) _ _ (omega (arith, n, c .loop-test .taken)))
 
 mul-load-line : tie.Need-mul-load-line Inv-loop μ-loop
 mul-load-line c = omega (arith, fits (c .before), c .before .before .before .before .before .before .pre .0 .1)

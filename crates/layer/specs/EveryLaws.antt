@@ -1,0 +1,28 @@
+-- Laws of `every`, a test of all numbers below n: one number more, and what it says of one of them.
+use mathlib.Core.Path.{_≡_, sym, ap, _∙_}
+use mathlib.Core.Bool.{Bool, true, false, and-true, and-false}
+use Prim.Native.Nat.{ℕ, zero, suc, _+_, _<_}
+use native.Mathlib.Decide.{ℕ-discrete}
+use native.Mathlib.Numerals.{add-one}
+use native.Mathlib.Omega.{arith}
+use Rattle.fermat.specs.RulesLaws.{both-true}
+use Rattle.layer.specs.Load.{every}
+
+-- one number more: its test fails, or it changes nothing
+module _ (test : ℕ → Bool) (n : ℕ) where
+  pub every-fails : test n ≡ false → false ≡ every (n + 1) test
+  every-fails e = rw (add-one, e) (sym (and-false (every n test)))
+
+  pub every-holds : test n ≡ true → every n test ≡ every (n + 1) test
+  every-holds e = rw (add-one, e) (sym (and-true (every n test)))
+
+pub every-at : (n : ℕ) (test : ℕ → Bool) → every n test ≡ true → (i : ℕ) → i < n → test i ≡ true
+every-at zero test e i l = absurd (omega arith)
+every-at (suc n) test e i l = go (ℕ-discrete i n) (every-at n test (both .0) i)
+  where
+    both : (every n test ≡ true) × (test n ≡ true)
+    both = both-true (every n test) (test n) e
+
+    go : Dec (i ≡ n) → (i < n → test i ≡ true) → test i ≡ true
+    go (yes same) before = ap test same ∙ both .1
+    go (no other) before = before (omega arith)
