@@ -1,0 +1,74 @@
+-- `weights_fit` tests weight after weight: `fit` says it of the places before p. It rests on the laws of `every`.
+use mathlib.Core.Path.{_≡_, refl, sym, ap, _∙_}
+use mathlib.Core.Bool.{Bool}
+use mathlib.Core.Logic.{⊎-elim}
+use Prim.Native.Nat.{ℕ, _+_, _-_, _≤_}
+use native.Mathlib.Omega.{arith}
+use borrow.Author.Needs.{needs, sfits-of}
+use borrow.Author.Tests.{not-true, not-false}
+use denote.Ref.{now}
+use mir.Facts.{toZ-ofZ}
+use Rattle.layer.specs.Shape.{kernelCount}
+use Rattle.layer.specs.Load.{every}
+use Rattle.layer.specs.EveryLaws.{every-fails, every-holds}
+use Rattle.join.specs.Joined.{joinedLayer, joinedAt}
+use Rattle.join.specs.Answer.{fits, weightsFit}
+use Rattle.join.proofs.checks.weights_fit.Statement.{statement}
+use Rattle.join.proofs.checks.weights_fit.Tie as tie
+
+abbrev Inv-loop : tie.InvT-loop
+Inv-loop first first-kernel second second-kernel count fit₀ p₀ fit p =
+    (p ≤ count) × (fit ≡ every p (λ q. fits (joinedAt first first-kernel second second-kernel q)))
+
+abbrev μ-loop : tie.MeasureT-loop
+μ-loop first first-kernel second second-kernel count fit₀ p₀ fit p = count - p
+
+loop-holds : tie.Need-loop-holds Inv-loop μ-loop
+loop-holds c = (omega arith, refl)
+
+weight-at-requires : tie.Need-weight-at-requires Inv-loop μ-loop
+weight-at-requires c κs =
+    let s = c .before .before in
+    (s .pre .0, omega (arith, s .pre .1))
+
+is-weight-requires : tie.Need-is-weight-requires Inv-loop μ-loop
+is-weight-requires c κs = search needs
+
+add-p : tie.Need-add-p Inv-loop μ-loop
+add-p c = search needs
+
+loop-less : tie.Need-loop-less Inv-loop μ-loop
+loop-less c = search needs
+
+-- what the branch makes of `fit`
+fit-next : (c : tie.Joined1 Inv-loop μ-loop)
+    → let turn : tie.At-loop Inv-loop μ-loop = c .before .before .before .before in
+    let a = turn .before .args in
+    c .if1 .fit ≡ every (turn .loop .p + 1) (λ q. fits (joinedAt (a .first) (now (a .first-kernel)) (a .second) (now (a .second-kernel)) q))
+fit-next c =
+    let turn = c .before .before .before .before in
+    let a = turn .before .args in
+    let test : ℕ → Bool = λ q. fits (joinedAt (a .first) (now (a .first-kernel)) (a .second) (now (a .second-kernel)) q) in
+    let tested : c .before .is-weight .result ≡ test (turn .loop .p) =
+    (rw (toZ-ofZ {z = c .before .before .weight-at .result} (sfits-of (c .before .before .weight-at .ok))) at (c .before .is-weight .ensures))
+    ∙ ap fits (c .before .before .weight-at .ensures .0) in
+    ⊎-elim
+    (λ w. w .1 ∙ every-fails test (turn .loop .p) (sym tested ∙ not-true _ (w .0 .taken)))
+    (λ w. w .1 ∙ turn .loop .inv .1 ∙ every-holds test (turn .loop .p) (sym tested ∙ not-false _ (w .0 .left)))
+    (c .if1 .came)
+
+loop-again : tie.Need-loop-again Inv-loop μ-loop
+loop-again c = (omega arith, fit-next c)
+
+returns : tie.Need-returns Inv-loop μ-loop
+unfolding weightsFit
+returns c =
+    let loop = c .before .loop in
+    let s = c .before .before in
+    let done : loop .p ≡ kernelCount (joinedLayer (s .args .first) (s .args .second)) = omega (arith, s .pre .1) in
+    rw (loop .inv .1, done)
+
+pub weights-fit-spec : {M : Type 1} → statement M
+weights-fit-spec =
+    tie.close
+    (tie.spec Inv-loop μ-loop loop-holds weight-at-requires is-weight-requires add-p loop-less loop-again returns)

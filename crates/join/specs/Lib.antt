@@ -1,0 +1,12 @@
+-- definitions
+pub mod Joined
+pub mod Answer
+pub mod Products
+-- laws
+pub mod DoubleSums
+pub mod StackedLaws
+pub mod JoinedLaws
+pub mod JoinLaw
+pub mod AnswerLaws
+pub mod ProductsLaws
+pub mod JoinCases

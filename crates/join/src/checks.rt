@@ -1,0 +1,131 @@
+// The checks of `join`, in the order of its answers: 26 of each layer, 26 and 27 of the two, 28 of all weights.
+use crate::places::joined_layer;
+use crate::weight::weight_at;
+use fermat::rules;
+use layer::shape::Layer;
+use layer::sizes;
+ghost use mathlib.Core.Path.{_≡_};
+ghost use Prim.Native.Nat.{_≤_};
+ghost use lib.ListN.{length};
+ghost use Rattle.fermat.specs.Rules.{firstBroken};
+ghost use Rattle.layer.specs.Shape.{kernelCount};
+ghost use Rattle.join.specs.Joined.{joinedLayer};
+ghost use Rattle.join.specs.Answer.{filterRules, pairRules, shapeRules, fits, weightsFit, joinCode};
+ghost use Rattle.join.specs.AnswerLaws.{Joinable};
+
+// 26 where a layer is not CONV with S 1 and P 0, a figure is out of range, or its weights are not as many as its figures say; else 0.
+fn filter_code(layer: Layer, weights: usize) -> usize
+    ensures { λ r. ⌜ r ≡ firstBroken (filterRules layer weights) ⌝ }
+{
+    if layer.kind != 0 {
+        return 26;
+    }
+    if layer.stride != 1 {
+        return 26;
+    }
+    if layer.padding != 0 {
+        return 26;
+    }
+    if !rules::is_inside(1, 64, layer.inputs) {
+        return 26;
+    }
+    if !rules::is_inside(1, 64, layer.outputs) {
+        return 26;
+    }
+    if !rules::is_inside(1, 11, layer.side) {
+        return 26;
+    }
+    if weights != sizes::kernel_count(layer) {
+        return 26;
+    }
+    0
+}
+
+// 26 where the channels between the two differ or `joined` has other room than the joined kernel needs, 27 where its side exceeds 11; else 0.
+fn pair_code(first: Layer, second: Layer, room: usize) -> usize
+    requires { ⌜ (first .inputs ≤ 64) × (second .outputs ≤ 64) × (1 ≤ first .side) × (first .side ≤ 11) × (second .side ≤ 11) ⌝ }
+    ensures { λ r. ⌜ r ≡ firstBroken (pairRules first second room) ⌝ }
+{
+    if first.outputs != second.inputs {
+        return 26;
+    }
+    let joined = joined_layer(first, second);
+    if room != sizes::kernel_count(joined) {
+        return 26;
+    }
+    if joined.side > 11 {
+        return 27;
+    }
+    0
+}
+
+// The first of 26 and 27 that is broken, or 0.
+fn shape_code(
+    first: Layer,
+    first_weights: usize,
+    second: Layer,
+    second_weights: usize,
+    room: usize,
+) -> usize
+    ensures { λ r. ⌜ r ≡ firstBroken (shapeRules first «first_weights» second «second_weights» room) ⌝ }
+{
+    let one = filter_code(first, first_weights);
+    if one != 0 {
+        return one;
+    }
+    let two = filter_code(second, second_weights);
+    if two != 0 {
+        return two;
+    }
+    pair_code(first, second, room)
+}
+
+// Whether a weight fits 16 signed bits.
+fn is_weight(value: i64) -> bool
+    ensures { λ r. ⌜ r ≡ fits value ⌝ }
+{
+    -32768 <= value && value <= 32767
+}
+
+// Whether every weight of the joined kernel fits, `count` of them.
+fn weights_fit(
+    first: Layer,
+    first_kernel: &[i16],
+    second: Layer,
+    second_kernel: &[i16],
+    count: usize,
+) -> bool
+    requires { ⌜ Joinable first (length (now «first_kernel»)) second (length (now «second_kernel»)) × (count ≡ kernelCount (joinedLayer first second)) ⌝ }
+    ensures { λ r. ⌜ r ≡ weightsFit first (now («first_kernel» .entry)) second (now («second_kernel» .entry)) ⌝ }
+{
+    let mut fit = true;
+    let mut p = 0;
+    while p < count {
+        let weight = weight_at(first, first_kernel, second, second_kernel, p);
+        if !is_weight(weight) {
+            fit = false;
+        }
+        p += 1;
+    }
+    fit
+}
+
+// The first of 26, 27 and 28 that is broken, or 0. `room` is the length of `joined`, whose contents no check reads.
+pub(crate) fn join_code(
+    first: Layer,
+    first_kernel: &[i16],
+    second: Layer,
+    second_kernel: &[i16],
+    room: usize,
+) -> usize
+    ensures { λ r. ⌜ r ≡ joinCode first (now («first_kernel» .entry)) second (now («second_kernel» .entry)) room ⌝ }
+{
+    let code = shape_code(first, first_kernel.len(), second, second_kernel.len(), room);
+    if code != 0 {
+        return code;
+    }
+    if !weights_fit(first, first_kernel, second, second_kernel, room) {
+        return 28;
+    }
+    0
+}
