@@ -1,4 +1,5 @@
-/* A transposed convolution planned, run tile by tile, its outputs as levels, and a call that is refused; a transform there and back; noise. */
+/* A transposed convolution planned, run tile by tile, its outputs as levels, and a call that is refused; a transform there and back; noise; two
+ * filters joined. */
 #include <stdio.h>
 #include <string.h>
 
@@ -41,6 +42,18 @@ static void show_noise(uint32_t seed)
     printf("noise %d %d %d %d %d %d, last seed %lu\n", noise[0], noise[1], noise[2], noise[3], noise[4], noise[5], (unsigned long)seed);
 }
 
+/* Joins a filter of 1 by 1 from two channels to one and a filter of 2 by 2, and one whose weights are too large. */
+static void show_joined(void)
+{
+    const size_t first[14] = {0, 4, 2, 1, 8, 8, 1, 1, 0, 100, 0, 0, 8, 8}, second[14] = {0, 4, 1, 1, 8, 8, 2, 1, 0, 100, 0, 0, 7, 7};
+    const int16_t mixed[2] = {3, -2}, edge[4] = {1, 0, 0, -1}, large[4] = {1, 0, 0, 20000};
+    int16_t joined[8];
+    size_t code = wemsteky_join(first, mixed, 2, second, edge, 4, joined, 8);
+    printf("joined %zu:", code);
+    for (int i = 0; i < 8; i++) printf(" %d", joined[i]);
+    printf(", refused %zu\n", wemsteky_join(first, mixed, 2, second, large, 4, joined, 8));
+}
+
 int main(void)
 {
     /* TCONV in F_4: one map channel of 24 by 24 to two channels of 50 by 50, K 4, S 2, P 0, peak 100, not cropped */
@@ -75,5 +88,6 @@ int main(void)
     printf("back %s\n", memcmp(there, words, sizeof words) == 0 ? "yes" : "no");
 
     show_noise(0);
+    show_joined();
     return 0;
 }

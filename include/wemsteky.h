@@ -9,7 +9,7 @@
  *   top left h w: the first row and column kept of the full output, and how many of each
  *
  * Every function accepts any numbers, lengths and values. It returns 0, or the number of the first check that fails; a refused call changes
- * no output, scratch, words or levels. wemsteky_noise has no checks and returns a seed.
+ * no output, scratch, words, levels or joined kernel. wemsteky_noise has no checks and returns a seed.
  *
  *   1 kind is not 0 or 1                  11 kernel length is not M C K K
  *   2 field is not 4 or 5                 12 output length is not M h w
@@ -22,6 +22,10 @@
  *     column                              19 a word not below the field
  *   9 the crop is empty or reaches beyond the full output
  *  20 the shift outside 0 to 31, the bound outside 1 to 32,767, or not as many levels as outputs
+ *  26 a layer to join not convolution with S 1 and P 0, its C, M or K outside the ranges above, a kernel length, that of the joined one too,
+ *     not as the figures say, or the first layer's M not the second's C
+ *  27 the joined side above 11
+ *  28 some joined weight not within 16 signed bits
  *
  * A pointer of length 0 may not be null. Buffers may not overlap.
  */
@@ -59,6 +63,11 @@ size_t wemsteky_levels(size_t shift, size_t bound, const int32_t *outputs, size_
 /* Fills the map in order, one draw for each value. A draw replaces the seed by 1,664,525 times itself plus 1,013,904,223, modulo 2 to the 32;
  * the value is the new seed divided by 16,777,216, rounded down, less 128. Returns the last seed, or the seed where the map is empty. */
 uint32_t wemsteky_noise(uint32_t seed, int16_t *map, size_t map_len);
+
+/* Checks 26 to 28, then the kernel of one layer that does what the first and then the second do: side K1 + K2 - 1, the first's C, the second's M.
+ * Its weight at a place is the sum, over the channels between the two and over the pairs of places that add up to it, of the products. */
+size_t wemsteky_join(const size_t first[14], const int16_t *first_kernel, size_t first_len, const size_t second[14],
+                     const int16_t *second_kernel, size_t second_len, int16_t *joined, size_t joined_len);
 
 #ifdef __cplusplus
 }

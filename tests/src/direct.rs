@@ -16,9 +16,9 @@ fn meetings(layer: &Layer, place: usize, length: usize) -> Vec<(usize, usize)> {
 }
 
 /// The sum at an output of a channel, given what meets in its row and in its column.
-fn sum_at(
+fn sum_at<V: Copy + Into<i64>>(
     layer: &Layer,
-    (map, kernel): (&[i16], &[i16]),
+    (map, kernel): (&[V], &[i16]),
     channel: usize,
     down: &[(usize, usize)],
     across: &[(usize, usize)],
@@ -29,15 +29,15 @@ fn sum_at(
         for &(row, a) in down {
             let line = &map[(input * layer.height + row) * layer.width..][..layer.width];
             for &(column, b) in across {
-                sum += i64::from(line[column]) * i64::from(plane[a * layer.side + b]);
+                sum += line[column].into() * i64::from(plane[a * layer.side + b]);
             }
         }
     }
     sum
 }
 
-/// Every output that the crop keeps, channel by channel, row by row.
-pub fn direct_sums(layer: &Layer, map: &[i16], kernel: &[i16]) -> Vec<i64> {
+/// Every output that the crop keeps, channel by channel, row by row. The map may be the outputs of another layer.
+pub fn direct_sums<V: Copy + Into<i64>>(layer: &Layer, map: &[V], kernel: &[i16]) -> Vec<i64> {
     let rows = layer.top..layer.top + layer.rows;
     let columns = layer.left..layer.left + layer.columns;
     let down: Vec<_> = rows.map(|row| meetings(layer, row, layer.height)).collect();

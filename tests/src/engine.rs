@@ -1,4 +1,4 @@
-//! The seven functions of include/wemsteky.h, behind slices.
+//! The eight functions of include/wemsteky.h, behind slices.
 
 mod c {
     extern "C" {
@@ -40,6 +40,16 @@ mod c {
             levels_len: usize,
         ) -> usize;
         pub fn wemsteky_noise(seed: u32, map: *mut i16, map_len: usize) -> u32;
+        pub fn wemsteky_join(
+            first: *const usize,
+            first_kernel: *const i16,
+            first_len: usize,
+            second: *const usize,
+            second_kernel: *const i16,
+            second_len: usize,
+            joined: *mut i16,
+            joined_len: usize,
+        ) -> usize;
     }
 }
 
@@ -117,4 +127,14 @@ pub fn levels(shift: usize, bound: usize, outputs: &[i32], levels: &mut [i16]) -
 
 pub fn noise(seed: u32, map: &mut [i16]) -> u32 {
     called!(wemsteky_noise(seed), read(), written(map))
+}
+
+/// Each layer with its kernel.
+pub fn join(first: (&[usize; 14], &[i16]), second: (&[usize; 14], &[i16]), joined: &mut [i16]) -> usize {
+    let (layer, kernel) = first;
+    called!(
+        wemsteky_join(layer.as_ptr(), kernel.as_ptr(), kernel.len(), second.0.as_ptr()),
+        read(second.1),
+        written(joined)
+    )
 }

@@ -11,6 +11,7 @@ ghost use Rattle.layer.specs.Numbers.{layerOf};
 ghost use Rattle.layer.specs.Checks.{planOf};
 ghost use Rattle.levels.specs.Answer.{levelsCode, levelsLeft};
 ghost use Rattle.noise.specs.Draw.{lastSeed, noiseLeft};
+ghost use Rattle.join.specs.Answer.{joinCode, joinLeft};
 ghost use Rattle.engine.specs.Call.{startOf};
 ghost use Rattle.wemsteky.specs.Figures.{planFigures, progressFigures, Reported};
 
@@ -103,4 +104,24 @@ pub extern "C" fn wemsteky_noise(seed: u32, map: &mut [i16]) -> u32
     ensures { λ _. ⌜ now (map .exit) ≡ noiseLeft seed (now (map .entry)) ⌝ }
 {
     noise::fill(seed, map)
+}
+
+#[no_mangle]
+pub extern "C" fn wemsteky_join(
+    first: &[usize; 14],
+    first_kernel: &[i16],
+    second: &[usize; 14],
+    second_kernel: &[i16],
+    joined: &mut [i16],
+) -> usize
+    ensures { λ r. ⌜ r ≡ joinCode (layerOf (now (first .entry))) (now («first_kernel» .entry)) (layerOf (now (second .entry))) (now («second_kernel» .entry)) (length (now (joined .entry))) ⌝ }
+    ensures { λ _. ⌜ now (joined .exit) ≡ joinLeft (layerOf (now (first .entry))) (now («first_kernel» .entry)) (layerOf (now (second .entry))) (now («second_kernel» .entry)) (now (joined .entry)) ⌝ }
+{
+    join::join(
+        layer_of(first),
+        first_kernel,
+        layer_of(second),
+        second_kernel,
+        joined,
+    )
 }
