@@ -18,6 +18,7 @@ use Rattle.join.specs.JoinLaw.{Filter, Pair, Follows, join-law}
 
 -- ---- one layer
 
+-- what its seven rules give
 pub record Kept (l : Layer) (weights : ℕ) : Type 0 where
   pub filter : Filter l
   pub inputs-low : 1 ≤ l .inputs
@@ -47,6 +48,7 @@ filter-kept l weights e =
 
 -- ---- two layers
 
+-- what the code asks of both: all that 26 says of them but for the length of `joined`
 pub record Joinable (first : Layer) (firstWeights : ℕ) (second : Layer) (secondWeights : ℕ) : Type 0 where
   pub one : Kept first firstWeights
   pub two : Kept second secondWeights
