@@ -1,5 +1,5 @@
--- The two passes over a corner: what the words of each pass are and what they meet, and the transform of the tile that they make.
--- It rests on Tiles for the second pass.
+-- The two transforms of a corner: what the words of each are and what they meet, and the transform of the tile that they make.
+-- It rests on Tiles for the second one.
 use mathlib.Core.Path.{_≡_, refl, sym, ap, _∙_, subst}
 use mathlib.Core.Bool.{Bool, true, false, _&&_, cond}
 use mathlib.Core.List.{List, _++_}
@@ -21,11 +21,13 @@ use Rattle.fermat.specs.TransformLaws.{c-power-sum, power-sum-zero}
 use Rattle.fermat.specs.Order.{reversed}
 use Rattle.fermat.specs.OrderLaws.{reversed-lt, place-lt}
 use Rattle.fermat.specs.Butterfly.{AtMost}
-use Rattle.fermat.specs.Halving.{word, Forward, Grid, Filled}
+use Rattle.fermat.specs.Halving.{word, Forward, Filled}
+use Rattle.fermat.specs.Passes.{Grid}
 use Rattle.fermat.specs.Tile.{TileForward}
 use Rattle.fermat.specs.Corner.{corner, Cornered, Widened}
 use Rattle.fermat.specs.SpectrumLaws.{spectrum-kept}
-use Rattle.fermat.proofs.Tiles.{second-pass}
+use Rattle.fermat.proofs.Parts.{part-length, part-word, part-most}
+use Rattle.fermat.proofs.Tiles.{second-transform}
 
 -- columns from k on are 0
 outside : (k at : ℕ) (xs : List ℕ) (a b : ℕ) → k ≤ b → corner k at xs a b ≡ 0
@@ -41,36 +43,25 @@ pub record Wide (n k s : ℕ) (xs ys ts : List ℕ) : Type 0 where
   pub whole : length ts ≡ length xs
   pub turned : Widened n k (putMid (n * n) s xs ys) ts
 
--- the first pass: its part is the s words from n * n on
+-- the first transform: its part is the s words from n * n on
 module _ {n k c s : ℕ} {xs : List ℕ} (cornered : Cornered n k c xs) (part : s ≡ n * k) where
-  pub part-le : n * n + s ≤ length xs
-  part-le = let le : n * k ≤ n * n = mul-le-mul-left n (cornered .inside) in omega (arith, cornered .whole)
+  pub corner-le : n * n + s ≤ length xs
+  corner-le = let le : n * k ≤ n * n = mul-le-mul-left n (cornered .inside) in omega (arith, cornered .whole)
 
-  pub part-length : length (midOf (n * n) s xs) ≡ s
-  part-length = length-take-le s (drop (n * n) xs) (omega (arith, length-drop (n * n) xs, part-le))
+  pub corner-grid : {t b : ℕ} → Grid t n n 1 b c → Grid (length (midOf (n * n) s xs)) n k 1 b c
+  corner-grid tile = record { whole = part-length (n * n) s xs corner-le ∙ part; power = tile .power; short = tile .short; period = tile .period; room = tile .room }
 
-  part-word : (i : ℕ) → i < s → getD (midOf (n * n) s xs) i 0 ≡ getD xs (n * n + i) 0
-  part-word i l = getD-take s (drop (n * n) xs) i 0 l ∙ getD-drop (n * n) xs i 0
+  pub corner-most : AtMost c (midOf (n * n) s xs)
+  corner-most = part-most (n * n) s xs corner-le c (λ i l. cornered .bound i (omega arith))
 
-  pub part-grid : {t l b : ℕ} → n ≡ 2 ^ l → Grid t n l 1 b c → Grid (length (midOf (n * n) s xs)) k l 1 b c
-  part-grid side grid = record {
-    whole = part-length ∙ part ∙ ap (λ (i : ℕ). i * k) side;
-    levels = grid .levels;
-    period = grid .period;
-    room = grid .room;
-  }
-
-  pub part-most : AtMost c (midOf (n * n) s xs)
-  part-most i l = let h : i < s = omega (arith, part-length) in rw (part-word i h) (cornered .bound i (omega arith))
-
-  pub part-filled : Filled k k (midOf (n * n) s xs)
-  part-filled = record {
+  pub corner-filled : Filled k k (midOf (n * n) s xs)
+  corner-filled = record {
     some = cornered .some;
-    empty = λ i lo hi. let h : i < s = omega (arith, part-length) in part-word i h ∙ cornered .empty i lo (omega arith);
+    empty = λ i lo hi. let h : i < s = omega (arith, part-length (n * n) s xs corner-le) in part-word (n * n) s xs corner-le i h ∙ cornered .empty i lo (omega arith);
   }
 
   part-corner : (a b : ℕ) → a < n → b < k → word k a b (midOf (n * n) s xs) ≡ corner k (n * n) xs a b
-  part-corner a b la lb = part-word (a * k + b) (omega (arith, here)) ∙ go (decLt a k)
+  part-corner a b la lb = part-word (n * n) s xs corner-le (a * k + b) (omega (arith, here)) ∙ go (decLt a k)
     where
       here : a * k + b < n * k
       here = digits-lt la lb
@@ -82,10 +73,10 @@ module _ {n k c s : ℕ} {xs : List ℕ} (cornered : Cornered n k c xs) (part : 
           let after : k * k ≤ a * k = mul-le-mul-right k le in
           rw (le-ltb a k le) (cornered .empty (a * k + b) (omega arith) here)
 
-  -- the second pass is over the first half of ts
+  -- the second transform is over the first half of ts
   module _ {ys ts : List ℕ} (wide : Wide n k s xs ys ts) where
     returned : (i : ℕ) → i < s → getD (putMid (n * n) s xs ys) (n * n + i) 0 ≡ getD ys i 0
-    returned = getD-put-mid 0 xs ys (n * n) s part-le (wide .kept ∙ part-length)
+    returned = getD-put-mid 0 xs ys (n * n) s corner-le (wide .kept ∙ part-length (n * n) s xs corner-le)
 
     wide-word : (r j : ℕ) → r < k → j < n → word n r j (take (n * n) ts) ≡ word k j r ys
     wide-word r j lr lj =
@@ -113,7 +104,7 @@ module _ {n k c s : ℕ} {xs : List ℕ} (cornered : Cornered n k c xs) (part : 
             let column : i % n < n = mod-lt i some in
             let here : i % n * k + i / n < n * k = digits-lt column row in
             subst (λ (p : ℕ). getD (take (n * n) ts) p 0 ≤ e) (div-add-mod' i n)
-            (rw (wide-word (i / n) (i % n) row column) (most (i % n * k + i / n) (rw (wide .kept, part-length, part) here)))
+            (rw (wide-word (i / n) (i % n) row column) (most (i % n * k + i / n) (rw (wide .kept, part-length (n * n) s xs corner-le, part) here)))
         go (no h) = rw (wide-empty i (omega arith) (omega (arith, wide-length))) (omega arith)
 
     module _ (m w l : ℕ) (zs : List ℕ) (side : n ≡ 2 ^ l) (first : Forward m w l k (midOf (n * n) s xs) ys) where
@@ -134,7 +125,7 @@ module _ {n k c s : ℕ} {xs : List ℕ} (cornered : Cornered n k c xs) (part : 
               ∙ sym (power-sum-zero (2 ^ l) w (λ r. corner k (n * n) xs r j) f (λ a. outside k (n * n) xs a j (omega arith))))
 
       pub corner-forward : Forward m w l n (take (n * n) ts) zs → TileForward m w l n (corner k (n * n) xs) 0 zs
-      corner-forward rows = second-pass m w l n (corner k (n * n) xs) (take (n * n) ts) zs side rows columns
+      corner-forward rows = second-transform m w l n (corner k (n * n) xs) (take (n * n) ts) zs side rows columns
 
 -- a tile at the front of a longer buffer
 module _ (n : ℕ) (zs rest : List ℕ) (whole : length zs ≡ n * n) where

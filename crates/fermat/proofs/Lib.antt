@@ -2,9 +2,13 @@ mod Words
 mod Pairs
 mod Stages
 mod Parts
+mod Blocks
 mod Levels
+mod PassRows
+mod ForwardLanes
+mod InverseLanes
+mod LanePasses
 mod Exchange
-mod Recursion
 mod Tiles
 mod Widening
 mod Corners

@@ -8,10 +8,12 @@ use lib.Pow.{pow-pos, pow-mono}
 use Rattle.fermat.specs.Field.{modulus, points, scale}
 use Rattle.fermat.specs.FieldLaws.{exponent-lt}
 use Rattle.fermat.specs.Butterfly.{Bound}
-use Rattle.fermat.specs.Halving.{Grid}
+use Rattle.fermat.specs.Passes.{passes, Grid}
+use Rattle.fermat.specs.PassLaws.{passes-power}
 use Rattle.fermat.specs.Tile.{Square}
 use Rattle.fermat.specs.Product.{settledMost}
 use Rattle.fermat.proofs.Words.{one-shl, bound-times}
+use Rattle.fermat.proofs.Levels.{grid}
 
 -- a power of 2 by the machine's shift, the exponent by another name
 pub shifted : {s e : ℕ} → s ≡ e → e ≤ 32 → (1 * 2 ^ s) % 2 ^ 64 ≡ 2 ^ e
@@ -44,15 +46,15 @@ module _ (t : ℕ) (high : t ≤ 5) where
         fits = omega (arith, power-high);
       }
 
-  pub row-grid : {n : ℕ} → n ≡ points t → Grid n 1 (t + 1) 1 (2 ^ t) (2 * modulus t)
-  row-grid e =
-      let most : 2 * modulus t * 2 ^ (t + 1) ≤ 2 * modulus t * 64 = mul-le-mul-left (2 * modulus t) (pow-mono {i = t + 1} {j = 6} (omega arith)) in
-      record {
-        whole = omega arith;
-        levels = omega arith;
-        period = rw add-one (omega (arith, two-pow-succ t));
-        room = omega (arith, power-high);
-      }
+  pub row-grid : {n : ℕ} → n ≡ points t → Grid n n 1 1 (2 ^ t) (2 * modulus t)
+  row-grid {n} e =
+      let short : n ≤ 64 = rw e (pow-mono {i = t + 1} {j = 6} (omega arith)) in
+      let most : 2 * modulus t * n ≤ 2 * modulus t * 64 = mul-le-mul-left (2 * modulus t) short in
+      let twice : points t ≡ 2 ^ t + 2 ^ t = rw add-one (two-pow-succ t) in
+      grid (t + 1) e (omega arith) (omega arith) (omega (arith, twice)) (omega (arith, power-high))
+
+  pub row-passes : {n : ℕ} → n ≡ points t → passes n ≡ t + 1
+  row-passes e = passes-power e (omega arith)
 
   -- a tile that is brought down meets what the inverse asks
   pub tile-bound : Bound (2 ^ t) (settledMost t)

@@ -1,4 +1,4 @@
--- The two passes over a tile: what they make together, the sizes of each, and the bound across a transposition.
+-- The two transforms of a tile, of its columns and of its rows: what they make together, the sizes of each, and the bound across a transposition.
 use mathlib.Core.Path.{_≡_, refl, sym, ap, _∙_}
 use mathlib.Core.List.{List}
 use Prim.Native.Nat.{ℕ, _+_, _*_, _%_, _^_, _<_, _≤_}
@@ -11,17 +11,20 @@ use Rattle.algebra.specs.CongruenceLaws.{c-eq, _⨟_, c-via}
 use Rattle.fermat.specs.Transform.{powerSum, powerSum2}
 use Rattle.fermat.specs.Order.{reversed, across, Permuted}
 use Rattle.fermat.specs.Butterfly.{Bound, AtMost}
-use Rattle.fermat.specs.Halving.{word, Forward, Inverse, Grid, Filled}
+use Rattle.fermat.specs.Halving.{word, Forward, Inverse, Filled}
+use Rattle.fermat.specs.Passes.{passes, Grid}
+use Rattle.fermat.specs.PassLaws.{passes-power}
 use Rattle.fermat.specs.Tile.{TileForward, TileInverse, Square}
 use Rattle.fermat.specs.TransformLaws.{c-power-sum, power-sum-swap}
 use Rattle.fermat.specs.OrderLaws.{reversed-lt, across-lt, transposed, permuted-most}
 use Rattle.fermat.proofs.Words.{bound-times}
+use Rattle.fermat.proofs.Levels.{grid}
 
--- the pass over the rows, where column k in bit-reversed order holds the transforms of the columns of x at k
-pub second-pass : (m w l n : ℕ) (x : ℕ → ℕ → ℕ) (ts zs : List ℕ) → n ≡ 2 ^ l → Forward m w l n ts zs
+-- the transform of the rows, where column k in bit-reversed order holds the transforms of the columns of x at k
+pub second-transform : (m w l n : ℕ) (x : ℕ → ℕ → ℕ) (ts zs : List ℕ) → n ≡ 2 ^ l → Forward m w l n ts zs
     → ((k j : ℕ) → k < 2 ^ l → j < n → Cong m (word n j (reversed l k) ts) (powerSum (2 ^ l) w (λ r. x r j) k)) → TileForward m w l n x 0 zs
 unfolding powerSum2
-second-pass m w l n x ts zs side rows columns = record {
+second-transform m w l n x ts zs side rows columns = record {
   entries = λ k i lk li.
       c-eq (ap (λ (p : ℕ). getD zs p 0) (zero-add (reversed l i * n + reversed l k)))
       ⨟ rows i (reversed l k) li (omega (arith, reversed-lt l k lk))
@@ -33,7 +36,7 @@ second-pass m w l n x ts zs side rows columns = record {
 module _ (m w l n : ℕ) (xs ys ts zs : List ℕ) (side : n ≡ 2 ^ l) (size : length ys ≡ n * n) (turned : Permuted (across n) ys ts) where
   pub tile-forward : Forward m w l n xs ys → Forward m w l n ts zs → TileForward m w l n (λ r j. word n r j xs) 0 zs
   tile-forward columns rows =
-      second-pass m w l n (λ r j. word n r j xs) ts zs side rows
+      second-transform m w l n (λ r j. word n r j xs) ts zs side rows
       (λ k j lk lj. c-eq (transposed ys ts turned size j (reversed l k) lj (omega (arith, reversed-lt l k lk))) ⨟ columns k j lk lj)
 
   pub tile-inverse : Inverse m w l n xs ys → Inverse m w l n ts zs → TileInverse m w l n xs zs
@@ -53,24 +56,25 @@ transposed-most n c ys ts size same turned most = permuted-most (across n) ys ts
 pub all-filled : (n : ℕ) (xs : List ℕ) → 0 < n → length xs ≡ n * n → Filled n n xs
 all-filled n xs some size = record { some = some; empty = λ i lo hi. absurd (omega arith) }
 
--- the numbers of the two passes
-pub record Passes (s n l b c : ℕ) : Type 0 where
+-- the numbers of the two transforms
+pub record Transforms (s n l b c : ℕ) : Type 0 where
   pub some : 0 < n
-  pub first : Grid s n l 1 b c
+  pub count : passes n ≡ l
+  pub first : Grid s n n 1 b c
   pub shl : (c * 2 ^ l) % 2 ^ 64 ≡ c * 2 ^ l
   pub bound : Bound b (c * 2 ^ l)
-  pub second : Grid s n l 1 b (c * 2 ^ l)
+  pub second : Grid s n n 1 b (c * 2 ^ l)
 
-pub passes : {s n l b c : ℕ} → Bound b c → Square s n l b c → Passes s n l b c
-passes {s} {n} {l} {b} {c} bound square =
+pub transforms : {s n l b c : ℕ} → Bound b c → Square s n l b c → Transforms s n l b c
+transforms {s} {n} {l} {b} {c} bound square =
     let le : c * 2 ^ l * 1 ≤ c * 2 ^ l * 2 ^ l = mul-le-mul-left (c * 2 ^ l) (pow-pos l) in
     let fits : c * 2 ^ l < 9223372036854775808 = omega (arith, mul-one (c * 2 ^ l), square .room) in
-    let whole : s ≡ 2 ^ l * n = square .whole ∙ ap (λ (i : ℕ). i * n) (square .side) in
-    let period : 1 * 2 ^ l ≡ 2 * b = one-mul (2 ^ l) ∙ sym (square .side) ∙ square .period in
+    let period : 1 * n ≡ 2 * b = one-mul n ∙ square .period in
     record {
       some = omega (arith, square .side, pow-pos l);
-      first = record { whole = whole; levels = square .levels; period = period; room = fits };
+      count = passes-power (square .side) (omega (arith, square .levels));
+      first = grid l (square .side) (square .levels) (square .whole) period (rw (square .side) fits);
       shl = mod-eq-of-lt (omega arith);
       bound = bound-times bound (2 ^ l) (pow-pos l) fits;
-      second = record { whole = whole; levels = square .levels; period = period; room = square .room };
+      second = grid l (square .side) (square .levels) (square .whole) period (rw (square .side) (square .room));
     }

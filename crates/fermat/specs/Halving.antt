@@ -1,4 +1,4 @@
--- What the contracts of the recursive transforms say. A buffer holds 2 ^ l rows of `lanes` words; each lane is a transform of its own.
+-- What the contracts of the transforms of lanes say. A buffer holds 2 ^ l rows of `lanes` words; each lane is a transform of its own.
 -- The forward transform leaves the entry of frequency k in the row whose index has the bits of k in reverse order; the inverse takes
 -- rows in that order and leaves them in their own.
 use mathlib.Core.Path.{_≡_}
@@ -22,13 +22,6 @@ Forward m w l lanes xs ys =
 abbrev pub Inverse : (m v l lanes : ℕ) → List ℕ → List ℕ → Type 0
 Inverse m v l lanes xs ys =
     (k j : ℕ) → k < 2 ^ l → j < lanes → Cong m (word lanes k j ys) (powerSum (2 ^ l) v (λ i. word lanes (reversed l i) j xs) k)
-
--- the sizes of a buffer of n words: 2 ^ (unit 2 ^ l) is 1 modulo 2 ^ b + 1, and there is room for l doublings of the bound c
-pub record Grid (n lanes l unit b c : ℕ) : Type 0 where
-  pub whole : n ≡ 2 ^ l * lanes
-  pub levels : l ≤ 6
-  pub period : unit * 2 ^ l ≡ 2 * b
-  pub room : c * 2 ^ l < 9223372036854775808
 
 -- the rows from `filled` on are 0
 pub record Filled (filled lanes : ℕ) (xs : List ℕ) : Type 0 where

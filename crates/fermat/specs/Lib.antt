@@ -4,6 +4,7 @@ pub mod Transform
 pub mod Order
 pub mod Butterfly
 pub mod Halving
+pub mod Passes
 pub mod Tile
 pub mod Corner
 pub mod Product
@@ -16,6 +17,7 @@ pub mod ConvolutionLaws
 pub mod HalvingLaws
 pub mod FieldLaws
 pub mod OrderLaws
+pub mod PassLaws
 pub mod SpectrumLaws
 pub mod RulesLaws
 pub mod AnswerLaws

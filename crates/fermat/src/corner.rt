@@ -7,7 +7,7 @@ ghost use Rattle.algebra.specs.Places.{Written, Run};
 ghost use Rattle.fermat.specs.Butterfly.{Bound};
 ghost use Rattle.fermat.specs.Tile.{TileForward, Square};
 ghost use Rattle.fermat.specs.Corner.{corner, Cornered, turnedWord, Widened};
-use crate::halving::forward;
+use crate::passes::forward;
 use crate::residues::clear;
 
 // Row r of the first half becomes column r of the n rows of k words in the second half.
@@ -54,7 +54,7 @@ pub(crate) fn forward_corner(
     ensures { λ _. ⌜ ((i : ℕ) → i < n * n → getD (now (words .exit)) i 0 ≤ bound * 2 ^ levels * 2 ^ levels) ⌝ }
 {
     let area = n * n;
-    forward(&mut words[area..area + n * k], k, k, levels, 1, bits, bound);
+    forward(&mut words[area..area + n * k], n, k, k, 1, bits, bound);
     widen(words, n, k);
-    forward(&mut words[..area], k, n, levels, 1, bits, bound << levels);
+    forward(&mut words[..area], n, k, n, 1, bits, bound << levels);
 }

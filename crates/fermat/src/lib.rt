@@ -7,9 +7,9 @@ ghost use Rattle.fermat.specs.Answer.{transformCode, transformed, invert
 mod butterfly;
 mod corner;
 pub mod field;
-mod halving;
 pub mod number;
 mod order;
+mod passes;
 pub mod product;
 pub mod residues;
 pub mod rules;
@@ -32,7 +32,7 @@ fn transform_code(field: usize, words: &[u64]) -> usize
     0
 }
 
-// The transform of accepted words: by halving, then from bit-reversed order to order, then to residues.
+// The transform of accepted words: in passes, then from bit-reversed order to order, then to residues.
 fn transform_row(field: usize, words: &mut [u64])
     requires { ⌜ Accepted field (now words) ⌝ }
     ensures { λ _. ⌜ now (words .exit) ≡ row transformIn field (now (words .entry)) ⌝ }
@@ -40,7 +40,7 @@ fn transform_row(field: usize, words: &mut [u64])
     let n = words.len();
     let levels = field::levels_of(field);
     let m = field::modulus_of(field);
-    halving::forward(words, n, 1, levels, 1, field::bits_of(field), 2 * m);
+    passes::forward(words, n, n, 1, 1, field::bits_of(field), 2 * m);
     order::reorder(words, levels);
     residues::scale(words, 1, m);
 }
@@ -50,10 +50,11 @@ fn inverse_row(field: usize, words: &mut [u64])
     requires { ⌜ Accepted field (now words) ⌝ }
     ensures { λ _. ⌜ now (words .exit) ≡ row inverseIn field (now (words .entry)) ⌝ }
 {
+    let n = words.len();
     let levels = field::levels_of(field);
     let m = field::modulus_of(field);
     order::reorder(words, levels);
-    halving::inverse(words, 1, levels, 1, field::bits_of(field), 2 * m);
+    passes::inverse(words, n, 1, 1, field::bits_of(field), 2 * m);
     residues::scale(words, field::scale_of(field), m);
 }
 

@@ -5,9 +5,9 @@ ghost use lib.ListN.{length};
 ghost use Rattle.fermat.specs.Butterfly.{Bound, AtMost};
 ghost use Rattle.fermat.specs.Halving.{word};
 ghost use Rattle.fermat.specs.Tile.{TileForward, TileInverse, Square};
-use crate::halving::forward;
-use crate::halving::inverse;
 use crate::order::transpose;
+use crate::passes::forward;
+use crate::passes::inverse;
 
 pub(crate) fn forward_tile(words: &mut [u64], n: usize, levels: u32, bits: u32, bound: u64)
     requires { ⌜ Bound bits bound ⌝ }
@@ -16,9 +16,9 @@ pub(crate) fn forward_tile(words: &mut [u64], n: usize, levels: u32, bits: u32, 
     ensures { λ _. ⌜ TileForward (2 ^ bits + 1) 2 levels n (λ r j. word n r j (now (words .entry))) 0 (now (words .exit)) ⌝ }
     ensures { λ _. ⌜ AtMost (bound * 2 ^ levels * 2 ^ levels) (now (words .exit)) ⌝ }
 {
-    forward(words, n, n, levels, 1, bits, bound);
+    forward(words, n, n, n, 1, bits, bound);
     transpose(words, n);
-    forward(words, n, n, levels, 1, bits, bound << levels);
+    forward(words, n, n, n, 1, bits, bound << levels);
 }
 
 // Less the division by n * n.
@@ -29,7 +29,7 @@ pub(crate) fn inverse_tile(words: &mut [u64], n: usize, levels: u32, bits: u32, 
     ensures { λ _. ⌜ TileInverse (2 ^ bits + 1) (2 ^ (bits - 1) + 1) levels n (now (words .entry)) (now (words .exit)) ⌝ }
     ensures { λ _. ⌜ AtMost (bound * 2 ^ levels * 2 ^ levels) (now (words .exit)) ⌝ }
 {
-    inverse(words, n, levels, 1, bits, bound);
+    inverse(words, n, n, 1, bits, bound);
     transpose(words, n);
-    inverse(words, n, levels, 1, bits, bound << levels);
+    inverse(words, n, n, 1, bits, bound << levels);
 }

@@ -6,7 +6,7 @@ use borrow.Author.Needs.{needs}
 use denote.Ref.{now}
 use Rattle.algebra.specs.PowerLaws.{pow-one}
 use Rattle.fermat.specs.Field.{modulus}
-use Rattle.fermat.proofs.Sizes.{power-high, row-bound, row-grid, scale-lt}
+use Rattle.fermat.proofs.Sizes.{power-high, row-bound, row-grid, row-passes, scale-lt}
 use Rattle.fermat.proofs.Rows.{ordered-most, inverse-row}
 use Rattle.fermat.proofs.inverse_row.Statement.{statement}
 use Rattle.fermat.proofs.inverse_row.Tie as tie
@@ -37,8 +37,8 @@ inverse-requires c κs =
     let a = s .pre in
     let size = o .reorder .kept .0 ∙ a .size in
     let most = ordered-most a (o .reorder .last .0) size (rw levels at (o .reorder .ensures)) in
-    rw (c .bits-of .ensures, o .before .before .modulus-of .ensures, levels)
-    (row-bound t (a .field-high), (row-grid t (a .field-high) size, most))
+    rw (c .bits-of .ensures, o .before .before .modulus-of .ensures)
+    (row-bound t (a .field-high), (rw (o .reorder .kept .0) (row-grid t (a .field-high) (a .size)), most))
 
 scale-of-requires : tie.Need-scale-of-requires
 scale-of-requires c κs = search needs
@@ -66,7 +66,7 @@ returns c =
     let size-f = f .inverse .kept .0 ∙ size-o in
     inverse-row (s .args .field) (now (s .args .words)) (o .reorder .last .0) (f .inverse .last .0) (r .scale .last .0)
     size-o size-f (r .scale .kept .0 ∙ size-f) size (rw levels at (o .reorder .ensures))
-    (rw (f .before .bits-of .ensures, levels, pow-one) at (f .inverse .ensures .0))
+    (rw (f .before .bits-of .ensures, row-passes (s .args .field) (s .pre .field-high) size, pow-one) at (f .inverse .ensures .0))
     (rw (modulus, r .before .scale-of .ensures) at (r .scale .ensures))
 
 pub inverse-row-spec : {M : Type 1} → statement M

@@ -6,7 +6,7 @@ use native.Mathlib.Omega.{arith}
 use borrow.Author.Needs.{needs}
 use denote.Ref.{now}
 use lib.ListN.{getD}
-use Rattle.fermat.proofs.Sizes.{power-high, row-bound, row-grid}
+use Rattle.fermat.proofs.Sizes.{power-high, row-bound, row-grid, row-passes}
 use Rattle.fermat.proofs.Rows.{row-most, row-filled, forward-row}
 use Rattle.fermat.proofs.transform_row.Statement.{statement}
 use Rattle.fermat.proofs.transform_row.Tie as tie
@@ -30,7 +30,7 @@ forward-requires c κs =
     let s = c .before .before .before .before .before in
     let t = s .args .field in
     let a = s .pre in
-    rw (c .bits-of .ensures, c .before .before .modulus-of .ensures, c .before .before .before .levels-of .ensures)
+    rw (c .bits-of .ensures, c .before .before .modulus-of .ensures)
     (row-bound t (a .field-high), (row-grid t (a .field-high) (a .size), (row-most a, row-filled a)))
 
 reorder-requires : tie.Need-reorder-requires
@@ -63,7 +63,7 @@ returns c =
     let size-o = o .reorder .kept .0 ∙ size-f in
     forward-row (s .args .field) (now (s .args .words)) (f .forward .last .0) (o .reorder .last .0) (r .scale .last .0)
     size-f size-o (r .scale .kept .0 ∙ size-o)
-    (rw (bits, levels) at (f .forward .ensures .0)) (rw levels at (o .reorder .ensures))
+    (rw (bits, row-passes (s .args .field) (s .pre .field-high) size) at (f .forward .ensures .0)) (rw levels at (o .reorder .ensures))
     (λ i l. r .scale .ensures i l ∙ ap (λ (m : ℕ). (1 * getD (o .reorder .last .0) i 0) % m) modulus)
 
 pub transform-row-spec : {M : Type 1} → statement M

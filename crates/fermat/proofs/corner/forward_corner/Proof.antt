@@ -1,4 +1,4 @@
--- Two passes of `forward`: over the columns of the corner, and over the rows that `widen` makes of them. Corners has the law that joins them.
+-- `forward` twice: over the columns of the corner, and over the rows that `widen` makes of them. Corners has the law that joins them.
 use mathlib.Core.Path.{_≡_, sym, _∙_}
 use mathlib.Core.List.{List}
 use Prim.Native.Nat.{ℕ, _+_, _-_, _*_, _^_, _≤_}
@@ -6,8 +6,8 @@ use native.Mathlib.Omega.{arith}
 use borrow.Rule.Slice.PartMut.{same-len-mid}
 use denote.Ref.{now}
 use lib.ListN.{length, drop}
-use Rattle.fermat.proofs.Tiles.{passes}
-use Rattle.fermat.proofs.Corners.{Wide, part-le, part-grid, part-most, part-filled, wide-length, wide-filled, wide-most, corner-forward}
+use Rattle.fermat.proofs.Tiles.{transforms}
+use Rattle.fermat.proofs.Corners.{Wide, corner-le, corner-grid, corner-most, corner-filled, wide-length, wide-filled, wide-most, corner-forward}
 use Rattle.fermat.proofs.Corners.{front-most, front-forward}
 use borrow.Author.Needs.{needs}
 use Rattle.fermat.proofs.corner.forward_corner.Statement.{statement}
@@ -19,7 +19,7 @@ lent s = omega arith
 
 -- they lie in the second half
 inside : (s : tie.Start) → let a = s .args in a .n * a .n + (a .n * a .n + a .n * a .k - a .n * a .n) ≤ length (now (a .words))
-inside s = part-le (s .pre .1 .1) (lent s)
+inside s = corner-le (s .pre .1 .1) (lent s)
 
 mul-area : tie.Need-mul-area
 mul-area c = search needs
@@ -45,11 +45,11 @@ part-forward-end c = omega (arith, inside (c .before))
 forward-requires : tie.Need-forward-requires
 forward-requires c κs =
     let s = c .before .before in
-    let p = passes (s .pre .0) (s .pre .1 .0) in
+    let p = transforms (s .pre .0) (s .pre .1 .0) in
     let corner = s .pre .1 .1 in
-    (s .pre .0, (part-grid corner (lent s) (s .pre .1 .0 .side) (p .first), (part-most corner (lent s), part-filled corner (lent s))))
+    (s .pre .0, (corner-grid corner (lent s) (p .first), (corner-most corner (lent s), corner-filled corner (lent s))))
 
--- after `widen`: the words of the first pass, and those of both halves
+-- after `widen`: the words of the first transform, and those of both halves
 module _ (c : tie.After-widen) where
   abbrev first : tie.After-forward
   first = c .before .before .before .before
@@ -89,9 +89,9 @@ forward-requires-2 : tie.Need-forward-requires-2
 forward-requires-2 c κs =
     let w = c .before .before .before in
     let s = start w in
-    let p = passes (s .pre .0) (s .pre .1 .0) in
+    let p = transforms (s .pre .0) (s .pre .1 .0) in
     let corner = s .pre .1 .1 in
-    let most = wide-most corner (lent s) (wide w) (s .args .bound * 2 ^ s .args .levels) (first w .forward .ensures .1) in
+    let most = wide-most corner (lent s) (wide w) (s .args .bound * 2 ^ s .args .levels) (rw (p .count) at (first w .forward .ensures .1)) in
     rw (p .shl) (p .bound, (rw (wide-length corner (lent s) (wide w)) (p .second), (most, wide-filled corner (lent s) (wide w))))
 
 same-length : tie.Need-same-length
@@ -106,11 +106,13 @@ returns c =
     let zs = last .forward2 .last .0 in
     let rest = drop (a .n * a .n) (ts w) in
     let side = s .pre .1 .0 .side in
+    let p = transforms (s .pre .0) (s .pre .1 .0) in
     let size = last .forward2 .kept .0 ∙ wide-length (s .pre .1 .1) (lent s) (wide w) in
     let tile =
-    corner-forward (s .pre .1 .1) (lent s) (wide w) (2 ^ a .bits + 1) 2 (a .levels) zs side (first w .forward .ensures .0) (last .forward2 .ensures .0) in (
+    corner-forward (s .pre .1 .1) (lent s) (wide w) (2 ^ a .bits + 1) 2 (a .levels) zs side
+    (rw (p .count) at (first w .forward .ensures .0)) (rw (p .count) at (last .forward2 .ensures .0)) in (
       front-forward (a .n) zs rest size side tile,
-      front-most (a .n) zs rest size (a .bound * 2 ^ a .levels * 2 ^ a .levels) (rw (passes (s .pre .0) (s .pre .1 .0) .shl) at (last .forward2 .ensures .1)),
+      front-most (a .n) zs rest size (a .bound * 2 ^ a .levels * 2 ^ a .levels) (rw (p .count, p .shl) at (last .forward2 .ensures .1)),
     )
 
 pub forward-corner-spec : {M : Type 1} → statement M

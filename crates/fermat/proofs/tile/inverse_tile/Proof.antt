@@ -1,4 +1,4 @@
--- Two passes of `inverse` over the columns and the rows. Tiles has the law that joins them.
+-- `inverse` over the columns, then over the rows. Tiles has the law that joins them.
 use mathlib.Core.Path.{_≡_, sym, _∙_}
 use mathlib.Core.List.{List}
 use Prim.Native.Nat.{ℕ, _+_, _-_, _*_, _^_}
@@ -6,14 +6,14 @@ use borrow.Author.Needs.{needs}
 use denote.Ref.{now}
 use lib.ListN.{length}
 use Rattle.algebra.specs.PowerLaws.{pow-one}
-use Rattle.fermat.proofs.Tiles.{tile-inverse, transposed-most, passes}
+use Rattle.fermat.proofs.Tiles.{tile-inverse, transposed-most, transforms}
 use Rattle.fermat.proofs.tile.inverse_tile.Statement.{statement}
 use Rattle.fermat.proofs.tile.inverse_tile.Tie as tie
 
 inverse-requires : tie.Need-inverse-requires
 inverse-requires c κs =
     let s = c .before .before in
-    let p = passes (s .pre .0) (s .pre .1 .0) in
+    let p = transforms (s .pre .0) (s .pre .1 .0) in
     (s .pre .0, (p .first, s .pre .1 .1))
 
 transpose-requires : tie.Need-transpose-requires
@@ -22,7 +22,7 @@ transpose-requires c κs = search needs
 shl-inverse : tie.Need-shl-inverse
 shl-inverse c = search needs
 
--- before the second pass: the words after the first one and after the transposition, and their lengths
+-- before the second transform: the words after the first one and after the transposition, and their lengths
 module _ (c : tie.After-inverse-arg2) where
   abbrev first : tie.After-inverse
   first = c .before .before .before .before .before .before .before
@@ -49,11 +49,11 @@ inverse-requires-2 : tie.Need-inverse-requires-2
 inverse-requires-2 c κs =
     let s = start c in
     let a = s .args in
-    let p = passes (s .pre .0) (s .pre .1 .0) in
+    let p = transforms (s .pre .0) (s .pre .1 .0) in
     let whole : length (ts c) ≡ length (now (a .words)) = rows-length c ∙ columns-length c ∙ sym (s .pre .1 .0 .whole) in
     let most =
     transposed-most (a .n) (a .bound * 2 ^ a .levels) (ys c) (ts c) (columns-length c) (rows-length c) (turned c .transpose .ensures)
-    (first c .inverse .ensures .1) in
+    (rw (p .count) at (first c .inverse .ensures .1)) in
     rw (p .shl) (p .bound, (rw whole (p .second), most))
 
 same-length : tie.Need-same-length
@@ -65,11 +65,12 @@ returns c =
     let b = last .before in
     let s = start b in
     let a = s .args in
+    let p = transforms (s .pre .0) (s .pre .1 .0) in
     let v : ℕ = 2 ^ (a .bits - 1) + 1 in
     let one : v ^ 1 ≡ v = pow-one v in (
       tile-inverse (2 ^ a .bits + 1) v (a .levels) (a .n) (now (a .words)) (ys b) (ts b) (last .inverse2 .last .0) (s .pre .1 .0 .side)
-          (columns-length b) (turned b .transpose .ensures) (rw one at (first b .inverse .ensures .0)) (rw one at (last .inverse2 .ensures .0)),
-      rw (passes (s .pre .0) (s .pre .1 .0) .shl) at (last .inverse2 .ensures .1),
+          (columns-length b) (turned b .transpose .ensures) (rw (one, p .count) at (first b .inverse .ensures .0)) (rw (one, p .count) at (last .inverse2 .ensures .0)),
+      rw (p .count, p .shl) at (last .inverse2 .ensures .1),
     )
 
 pub inverse-tile-spec : {M : Type 1} → statement M

@@ -1,0 +1,153 @@
+// The transform of each lane, in passes over one array: as many as its length n has trailing zero bits. It serves a row (one lane), a tile (as
+// many lanes as rows) and a corner of a tile (some rows filled, the others 0).
+// At level i the n rows are 2^i blocks of n / 2^i rows. The forward transform goes up the levels, and its pass at level i splits every block
+// into two; the inverse goes down, and its pass at level i joins every two halves of a block.
+ghost use mathlib.Core.Path.{_≡_};
+ghost use Prim.Native.Nat.{_+_, _-_, _*_, _^_};
+ghost use lib.ListN.{length};
+ghost use Rattle.fermat.specs.Butterfly.{Bound, AtMost, Sized};
+ghost use Rattle.fermat.specs.Halving.{Forward, Inverse, Filled};
+ghost use Rattle.fermat.specs.Passes.{passes, stepOf, levelOf, WholeBlocks, Passed, Grid, Pruned, Transformed};
+use crate::butterfly::Step;
+use crate::butterfly::stage;
+use crate::number::lesser;
+
+pub enum Direction {
+    Forward,
+    Inverse,
+}
+
+// The butterflies of a direction.
+fn step_of(direction: Direction) -> Step
+    ensures { λ r. ⌜ r ≡ stepOf direction ⌝ }
+{
+    match direction {
+        Direction::Forward => Step::Forward,
+        Direction::Inverse => Step::Inverse,
+    }
+}
+
+// The level of a pass, by the passes before it and after it.
+fn level_of(direction: Direction, before: u32, after: u32) -> u32
+    ensures { λ r. ⌜ r ≡ levelOf direction before after ⌝ }
+{
+    match direction {
+        Direction::Forward => before,
+        Direction::Inverse => after,
+    }
+}
+
+// One pass. Its blocks: two halves of `half` words each, one block after the other. Its pairs: row r of the first half of a block with row r of
+// the second, for the first `rows` rows; the others are left as they are. Its powers: row r takes 2^(unit r), the power r of the root 2^unit of
+// the pass.
+fn pass(
+    words: &mut [u64],
+    rows: usize,
+    half: usize,
+    lanes: usize,
+    step: Step,
+    unit: u32,
+    bits: u32,
+    bound: u64,
+)
+    requires { ⌜ Bound bits bound ⌝ }
+    requires { ⌜ WholeBlocks (length (now words)) half × Sized (2 * half) rows lanes half unit bits ⌝ }
+    requires { ⌜ AtMost bound (now words) ⌝ }
+    ensures { λ _. ⌜ Passed step bits bound unit rows lanes half (now (words .entry)) (now (words .exit)) ⌝ }
+{
+    let mut at = 0;
+    while at < words.len() {
+        let end = at + 2 * half;
+        stage(
+            &mut words[at..end],
+            rows,
+            half,
+            lanes,
+            step,
+            unit,
+            bits,
+            bound,
+        );
+        at = end;
+    }
+}
+
+// All passes of a direction. At level i there are 2^i blocks, and the root of the pass is that of the transform to the power 2^i. The bound doubles
+// with each pass.
+fn transform_lanes(
+    words: &mut [u64],
+    direction: Direction,
+    n: usize,
+    filled: usize,
+    lanes: usize,
+    unit: u32,
+    bits: u32,
+    bound: u64,
+)
+    requires { ⌜ Bound bits bound ⌝ }
+    requires { ⌜ Grid (length (now words)) n lanes unit bits bound ⌝ }
+    requires { ⌜ AtMost bound (now words) ⌝ }
+    requires { ⌜ Pruned direction n filled lanes (now words) ⌝ }
+    ensures { λ _. ⌜ Transformed direction bits unit (passes n) lanes (now (words .entry)) (now (words .exit)) ⌝ }
+    ensures { λ _. ⌜ AtMost (bound * 2 ^ passes n) (now (words .exit)) ⌝ }
+{
+    let step = step_of(direction);
+    let count = usize::trailing_zeros(n);
+    let mut p = 0;
+    while p < count {
+        let level = level_of(direction, p, count - 1 - p);
+        let half = n >> (level + 1);
+        let rows = lesser(filled, half);
+        pass(
+            words,
+            rows,
+            half * lanes,
+            lanes,
+            step,
+            unit << level,
+            bits,
+            bound << p,
+        );
+        p += 1;
+    }
+}
+
+// At the root 2^unit, rows in bit-reversed order at the end. Rows from `filled` on are 0, and their butterflies are left out.
+pub(crate) fn forward(
+    words: &mut [u64],
+    n: usize,
+    filled: usize,
+    lanes: usize,
+    unit: u32,
+    bits: u32,
+    bound: u64,
+)
+    requires { ⌜ Bound bits bound ⌝ }
+    requires { ⌜ Grid (length (now words)) n lanes unit bits bound ⌝ }
+    requires { ⌜ AtMost bound (now words) ⌝ }
+    requires { ⌜ Filled filled lanes (now words) ⌝ }
+    ensures { λ _. ⌜ Forward (2 ^ bits + 1) (2 ^ unit) (passes n) lanes (now (words .entry)) (now (words .exit)) ⌝ }
+    ensures { λ _. ⌜ AtMost (bound * 2 ^ passes n) (now (words .exit)) ⌝ }
+{
+    transform_lanes(
+        words,
+        Direction::Forward,
+        n,
+        filled,
+        lanes,
+        unit,
+        bits,
+        bound,
+    );
+}
+
+// At the inverse of 2^unit, from rows in bit-reversed order to rows in order, less the division by the length.
+pub(crate) fn inverse(words: &mut [u64], n: usize, lanes: usize, unit: u32, bits: u32, bound: u64)
+    requires { ⌜ Bound bits bound ⌝ }
+    requires { ⌜ Grid (length (now words)) n lanes unit bits bound ⌝ }
+    requires { ⌜ AtMost bound (now words) ⌝ }
+    ensures { λ _. ⌜ Inverse (2 ^ bits + 1) ((2 ^ (bits - 1) + 1) ^ unit) (passes n) lanes (now (words .entry)) (now (words .exit)) ⌝ }
+    ensures { λ _. ⌜ AtMost (bound * 2 ^ passes n) (now (words .exit)) ⌝ }
+{
+    transform_lanes(words, Direction::Inverse, n, n, lanes, unit, bits, bound);
+}
