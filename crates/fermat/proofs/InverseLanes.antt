@@ -47,25 +47,25 @@ power-back b t some le =
     regroup : (a b c : ℕ) → a * b * c ≡ b * (a * c)
     regroup a b c = omega arith
 
-module _ {s n lanes unit b c filled p k : ℕ} {xs ys zs : List ℕ} (level : Level s n lanes unit b k p) (some : 0 < b) (all : 2 ^ p ≤ filled)
-    (before : InverseLanes b unit lanes p (2 * 2 ^ k) xs ys)
-    (size : length ys ≡ s) (passed : Passed Inverse b c (unit * 2 ^ k) (min filled (2 ^ p)) lanes (2 ^ p * lanes) ys zs) where
-  minus-row : (r : ℕ) → r ≤ 2 ^ p → Cong (2 ^ b + 1) (2 ^ (b - unit * 2 ^ k * r) + (back b unit ^ (2 ^ k)) ^ r) 0
+module _ {s lanes unit b c filled p g : ℕ} {xs ys zs : List ℕ} (level : Level s lanes unit b g (2 ^ p)) (some : 0 < b) (all : 2 ^ p ≤ filled)
+    (before : InverseLanes b unit lanes p (2 * g) xs ys)
+    (size : length ys ≡ s) (passed : Passed Inverse b c (unit * g) (min filled (2 ^ p)) lanes (2 ^ p * lanes) ys zs) where
+  minus-row : (r : ℕ) → r ≤ 2 ^ p → Cong (2 ^ b + 1) (2 ^ (b - unit * g * r) + (back b unit ^ g) ^ r) 0
   minus-row r le =
-      c-via (ap (λ (i : ℕ). 2 ^ (b - unit * 2 ^ k * r) + i) (sym (pass-root (2 ^ (b - 1) + 1) unit (2 ^ k) r)))
-      (power-back b (unit * 2 ^ k * r) some (omega (arith, level .turns, mul-le-mul-left (unit * 2 ^ k) le))) refl
+      c-via (ap (λ (i : ℕ). 2 ^ (b - unit * g * r) + i) (sym (pass-root (2 ^ (b - 1) + 1) unit g r)))
+      (power-back b (unit * g * r) some (omega (arith, level .turns, mul-le-mul-left (unit * g) le))) refl
 
-  turn : Cong (2 ^ b + 1) ((back b unit ^ (2 ^ k)) ^ (2 ^ p) + 1) 0
+  turn : Cong (2 ^ b + 1) ((back b unit ^ g) ^ (2 ^ p) + 1) 0
   turn =
-      let none : b - unit * 2 ^ k * 2 ^ p ≡ 0 = omega (arith, level .turns) in
+      let none : b - unit * g * 2 ^ p ≡ 0 = omega (arith, level .turns) in
       c-via (omega (arith, ap (λ (i : ℕ). 2 ^ i) none)) (minus-row (2 ^ p) (omega arith)) refl
 
   -- no pair is left out
-  none-left : Empty (2 ^ k) (min filled (2 ^ p) * lanes) (2 ^ p * lanes) ys
+  none-left : Empty g (min filled (2 ^ p) * lanes) (2 ^ p * lanes) ys
   none-left q i lq lo hi = let e : min filled (2 ^ p) ≡ 2 ^ p = omega arith in let past : 2 ^ p * lanes ≤ i = rw e at lo in absurd (omega arith)
 
-  pub inverse-lanes-more : InverseLanes b unit lanes (suc p) (2 ^ k) xs zs
+  pub inverse-lanes-more : InverseLanes b unit lanes (suc p) g xs zs
   inverse-lanes-more = record {
-    lane = λ j lj. inverse-more (2 ^ k) (λ r. 2 ^ (b - unit * 2 ^ k * r)) (λ r lr. minus-row r (omega arith)) turn (before .lane j lj)
-        (rows-made (omega arith) passed (2 ^ k) (size ∙ level .whole) none-left j lj);
+    lane = λ j lj. inverse-more g (λ r. 2 ^ (b - unit * g * r)) (λ r lr. minus-row r (omega arith)) turn (before .lane j lj)
+        (rows-made (omega arith) passed g (size ∙ level .whole) none-left j lj);
   }

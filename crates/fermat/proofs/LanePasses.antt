@@ -1,17 +1,20 @@
 -- The loop of a transform over its passes, in either direction: the state after p passes, and one pass more. Forward there are then 2 ^ p blocks of
 -- s rows, inverse s blocks of 2 ^ p rows.
-use mathlib.Core.Path.{_≡_, refl, _∙_}
+use mathlib.Core.Path.{_≡_, refl, sym, _∙_, subst}
 use mathlib.Core.List.{List}
-use Prim.Native.Nat.{ℕ, suc, _+_, _*_, _^_, _<_, _≤_, min}
+use Prim.Native.Nat.{ℕ, suc, _+_, _-_, _*_, _/_, _^_, _<_, _≤_, min}
 use native.Mathlib.Nat.{two-pow-succ}
+use native.Mathlib.Numerals.{add-one}
 use native.Mathlib.Omega.{arith}
 use lib.ListN.{length}
-use Rattle.fermat.specs.Butterfly.{AtMost}
-use Rattle.fermat.specs.Passes.{stepOf, levelOf, Passed, Pruned, Transformed}
+use lib.Pow.{pow-pos}
+use Rattle.fermat.specs.Butterfly.{Bound, AtMost, Sized}
+use Rattle.fermat.specs.Passes.{passes, stepOf, levelOf, WholeBlocks, Passed, Grid, Pruned, Transformed}
 use Rattle.fermat.specs.PassLaws.{forward-all, inverse-all}
+use Rattle.fermat.specs.declared.butterfly.Step.{Step}
 use Rattle.fermat.specs.declared.passes.Direction.{Direction}
 use Rattle.fermat.specs.declared.passes.Direction.the-variants.{Forward, Inverse}
-use Rattle.fermat.proofs.Levels.{Level}
+use Rattle.fermat.proofs.Levels.{level-lt, quotient, halved, level, power-le, doubled-bound, sized}
 use Rattle.fermat.proofs.PassRows.{passed-most}
 use Rattle.fermat.proofs.ForwardLanes.{ForwardLanes, forward-lanes-none, forward-lanes-more}
 use Rattle.fermat.proofs.InverseLanes.{InverseLanes, inverse-lanes-none, inverse-lanes-more}
@@ -44,24 +47,62 @@ pub after-all : (direction : Direction) {b c unit n filled lanes p : ℕ} {xs ys
 after-all Forward side after = λ k j lk lj. rw side at (forward-all (after .state .lane j lj) k lk)
 after-all Inverse side after = λ k j lk lj. inverse-all (after .state .lane j lj) k lk
 
--- p passes are before this one and d after it
-pub after-more : (direction : Direction) (p d : ℕ) {s n lanes unit b c filled : ℕ} {xs ys zs : List ℕ}
-    → Level s n lanes unit b (levelOf direction p d) (levelOf direction d p) → 0 < b → Pruned direction n filled lanes xs → 2 ^ p ≤ n
-    → length xs ≡ s → length zs ≡ length ys → After direction b c unit n filled lanes p (2 * 2 ^ d) xs ys
-    → Passed (stepOf direction) b (c * 2 ^ p) (unit * 2 ^ levelOf direction p d) (min filled (2 ^ levelOf direction d p)) lanes
-    (2 ^ levelOf direction d p * lanes) ys zs
-    → After direction b c unit n filled lanes (suc p) (2 ^ d) xs zs
-after-more direction p d {s} {n} {lanes} {unit} {b} {c} {filled} {xs} {ys} {zs} level some pruned short size same before passed = record {
-  size = same ∙ before .size;
-  most = λ i l. let e : 2 * (c * 2 ^ p) ≡ c * 2 ^ suc p = rw (two-pow-succ p) (omega arith) in
-      rw e at (passed-most passed (2 ^ levelOf direction p d) (before .size ∙ size ∙ level .whole) same (before .most) i l);
-  state = next direction level pruned (before .state) passed;
-}
-  where
-    next : (direction : Direction) → Level s n lanes unit b (levelOf direction p d) (levelOf direction d p) → Pruned direction n filled lanes xs
-        → Lanes direction b unit n filled lanes p (2 * 2 ^ d) xs ys
-        → Passed (stepOf direction) b (c * 2 ^ p) (unit * 2 ^ levelOf direction p d) (min filled (2 ^ levelOf direction d p)) lanes
-        (2 ^ levelOf direction d p * lanes) ys zs
-        → Lanes direction b unit n filled lanes (suc p) (2 ^ d) xs zs
-    next Forward level zeros state passed = forward-lanes-more level state (before .size ∙ size) passed
-    next Inverse level all state passed = inverse-lanes-more level some (omega arith) state (before .size ∙ size) passed
+-- what the code computes for pass p: its step, its level i, its rows, its unit u and the bound e on its words
+pub record Call (direction : Direction) (n filled unit c p : ℕ) (step : Step) (i rows u e : ℕ) : Type 0 where
+  pub step-is : step ≡ stepOf direction
+  pub level-is : i ≡ levelOf direction p (passes n - 1 - p)
+  pub rows-are : rows ≡ min filled (n / 2 ^ (i + 1))
+  pub unit-is : u ≡ unit * 2 ^ i
+  pub bound-is : e ≡ c * 2 ^ p
+
+module _ {direction : Direction} {s n lanes unit b c filled p i rows u e : ℕ} {step : Step} {xs ys : List ℕ} (bound : Bound b c)
+    (grid : Grid s n lanes unit b c) (pruned : Pruned direction n filled lanes xs) (short : p < passes n)
+    (call : Call direction n filled unit c p step i rows u e) (size : length xs ≡ s) (before : After direction b c unit n filled lanes p (n / 2 ^ p) xs ys) where
+  level-short : i < passes n
+  level-short = rw (call .level-is) (level-lt direction p (passes n) short)
+
+  -- what it asks
+  pub pass-asks : let half = n / 2 ^ (i + 1) * lanes in
+      Bound b e × ((WholeBlocks (length ys) half × Sized (2 * half) rows lanes half u b) × AtMost e ys)
+  pass-asks =
+      let z = level bound grid i level-short in
+      let some = filled-some direction lanes xs (omega (arith, grid .power, pow-pos (passes n))) pruned in
+      rw (call .unit-is, call .bound-is) (
+        doubled-bound bound grid p short,
+        (
+          (
+            record { blocks = 2 ^ i; whole = before .size ∙ size ∙ z .whole },
+            sized z rows (omega (arith, call .rows-are, some, z .some)) (omega (arith, call .rows-are)),
+          ),
+          before .most,
+        ),
+      )
+
+  -- and what it leaves
+  pub after-more : {zs : List ℕ} → length zs ≡ length ys → Passed step b e u rows lanes (n / 2 ^ (i + 1) * lanes) ys zs
+      → After direction b c unit n filled lanes (p + 1) (n / 2 ^ (p + 1)) xs zs
+  after-more {zs} same passed =
+      let made = rw (call .rows-are, call .unit-is, call .bound-is, call .step-is) at passed in
+      let twice : 2 * (c * 2 ^ p) ≡ c * 2 ^ suc p = rw (two-pow-succ p) (omega arith) in
+      subst (λ (q : ℕ). After direction b c unit n filled lanes q (n / 2 ^ (p + 1)) xs zs) (sym (add-one p)) record {
+        size = same ∙ before .size;
+        most = λ j l. rw twice at (passed-most made (2 ^ i) (whole ∙ level bound grid i level-short .whole) same (before .most) j l);
+        state = next direction pruned (call .level-is) (before .state) made;
+      }
+    where
+      whole : length ys ≡ s
+      whole = before .size ∙ size
+
+      next : (direction : Direction) → Pruned direction n filled lanes xs → i ≡ levelOf direction p (passes n - 1 - p)
+          → Lanes direction b unit n filled lanes p (n / 2 ^ p) xs ys
+          → Passed (stepOf direction) b (c * 2 ^ p) (unit * 2 ^ i) (min filled (n / 2 ^ (i + 1))) lanes (n / 2 ^ (i + 1) * lanes) ys zs
+          → Lanes direction b unit n filled lanes (suc p) (n / 2 ^ (p + 1)) xs zs
+      next Forward zeros at state passed =
+          forward-lanes-more (level bound grid p short) (rw (halved bound grid p short) at state) whole (rw at at passed)
+      next Inverse all at state passed =
+          let d : ℕ = passes n - 1 - p in
+          let blocks : n / 2 ^ (p + 1) ≡ 2 ^ d = quotient bound grid (p + 1) d (omega arith) in
+          let half : n / 2 ^ (d + 1) ≡ 2 ^ p = quotient bound grid (d + 1) p (omega arith) in
+          rw blocks
+          (inverse-lanes-more (rw half at (level bound grid d (omega arith))) (bound .half .bits-low) (omega (arith, power-le bound grid p short))
+          (rw (halved bound grid p short, blocks) at state) whole (rw (at, half) at passed))

@@ -3,7 +3,7 @@
 // At level i the n rows are 2^i blocks of n / 2^i rows. The forward transform goes up the levels, and its pass at level i splits every block
 // into two; the inverse goes down, and its pass at level i joins every two halves of a block.
 ghost use mathlib.Core.Path.{_≡_};
-ghost use Prim.Native.Nat.{_+_, _-_, _*_, _^_};
+ghost use Prim.Native.Nat.{_+_, _-_, _*_, _^_, _<_};
 ghost use lib.ListN.{length};
 ghost use Rattle.fermat.specs.Butterfly.{Bound, AtMost, Sized};
 ghost use Rattle.fermat.specs.Halving.{Forward, Inverse, Filled};
@@ -35,6 +35,14 @@ fn level_of(direction: Direction, before: u32, after: u32) -> u32
         Direction::Forward => before,
         Direction::Inverse => after,
     }
+}
+
+// The unit of the passes at a level: it doubles from level to level, since the root of a pass is that of the transform to the power of its blocks.
+fn unit_of(unit: u32, level: u32) -> u32
+    requires { ⌜ (level < 32) × (unit * 2 ^ level < 4294967296) ⌝ }
+    ensures { λ r. ⌜ r ≡ unit * 2 ^ level ⌝ }
+{
+    unit << level
 }
 
 // One pass. Its blocks: two halves of `half` words each, one block after the other. Its pairs: row r of the first half of a block with row r of
@@ -72,8 +80,7 @@ fn pass(
     }
 }
 
-// All passes of a direction. At level i there are 2^i blocks, and the root of the pass is that of the transform to the power 2^i. The bound doubles
-// with each pass.
+// All passes of a direction. The bound doubles with each.
 fn transform_lanes(
     words: &mut [u64],
     direction: Direction,
@@ -93,6 +100,7 @@ fn transform_lanes(
 {
     let step = step_of(direction);
     let count = usize::trailing_zeros(n);
+    let mut most = bound;
     let mut p = 0;
     while p < count {
         let level = level_of(direction, p, count - 1 - p);
@@ -104,10 +112,11 @@ fn transform_lanes(
             half * lanes,
             lanes,
             step,
-            unit << level,
+            unit_of(unit, level),
             bits,
-            bound << p,
+            most,
         );
+        most *= 2;
         p += 1;
     }
 }

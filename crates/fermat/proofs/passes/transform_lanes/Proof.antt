@@ -1,27 +1,34 @@
--- The state of the loop after p passes is After; a pass takes it to the next one, in either direction.
-use mathlib.Core.Path.{_≡_, refl, sym, ap, _∙_}
-use Prim.Native.Nat.{ℕ, suc, _+_, _-_, _*_, _^_, _<_, _≤_, min}
-use native.Mathlib.Nat.{two-pow-succ}
+-- The state of the loop after p passes is After, and the bound has doubled p times; a pass takes it to the next one, in either direction.
+use mathlib.Core.Path.{_≡_, refl, ap, _∙_}
+use Prim.Native.Nat.{ℕ, _+_, _-_, _*_, _/_, _^_, _<_, _≤_}
+use native.Mathlib.Nat.{two-pow-succ, mul-le-mul-right, div-le-self, div-one}
 use native.Mathlib.Numerals.{add-one}
 use native.Mathlib.Omega.{arith}
 use borrow.Author.Needs.{needs}
 use denote.Ref.{now}
-use lib.ListN.{length}
-use lib.Pow.{pow-pos}
-use Rattle.fermat.specs.Passes.{passes, stepOf, levelOf, Pruned}
-use Rattle.fermat.specs.declared.passes.Direction.{Direction}
-use Rattle.fermat.specs.declared.passes.Direction.the-variants.{Forward, Inverse}
-use Rattle.fermat.proofs.Levels.{levels-meet, Level, level, power-le, doubled-shl, doubled-bound, sized}
-use Rattle.fermat.proofs.LanePasses.{filled-some, After, after-none, after-more, after-all}
+use Rattle.fermat.specs.Passes.{passes}
+use Rattle.fermat.proofs.Levels.{level-lt, quotient, unit-most, doubled-bound}
+use Rattle.fermat.proofs.LanePasses.{After, after-none, after-all, Call, pass-asks, after-more}
 use Rattle.fermat.proofs.passes.transform_lanes.Statement.{statement}
 use Rattle.fermat.proofs.passes.transform_lanes.Tie as tie
 
 abbrev Inv-loop : tie.InvT-loop
-Inv-loop words₀ direction n filled lanes unit bits bound step count p₀ words p =
-    (p ≤ count) × After direction bits bound unit n filled lanes p (2 ^ (count - p)) words₀ words
+Inv-loop words₀ direction n filled lanes unit bits bound step count most₀ p₀ words most p =
+    (p ≤ count) × (most ≡ bound * 2 ^ p) × After direction bits bound unit n filled lanes p (n / 2 ^ p) words₀ words
 
 abbrev μ-loop : tie.MeasureT-loop
-μ-loop words₀ direction n filled lanes unit bits bound step count p₀ words p = count - p
+μ-loop words₀ direction n filled lanes unit bits bound step count most₀ p₀ words most p = count - p
+
+-- a turn begins where the function does
+abbrev start : tie.In-loop Inv-loop μ-loop → tie.Start Inv-loop μ-loop
+start turn = turn .before .before .before .before
+
+-- its level
+low : (c : tie.After-level-of Inv-loop μ-loop) → c .level-of .result < passes (start (c .before) .args .n)
+low c =
+    let turn = c .before in
+    let a = start turn .args in
+    omega (arith, c .level-of .ensures, level-lt (a .direction) (turn .before .loop .p) (passes (a .n)) (turn .loop-test .taken))
 
 step-of-requires : tie.Need-step-of-requires Inv-loop μ-loop
 step-of-requires c κs = search needs
@@ -30,9 +37,7 @@ loop-holds : tie.Need-loop-holds Inv-loop μ-loop
 loop-holds c =
     let s = c .before .before in
     let a = s .args in
-    let grid = s .pre .1 .0 in
-    let all : 2 ^ (passes (a .n) - 0) ≡ a .n = ap (λ (l : ℕ). 2 ^ l) (omega arith) ∙ sym (grid .power) in
-    (omega arith, rw all (after-none (a .direction) (grid .whole) (s .pre .1 .1 .0) (s .pre .1 .1 .1)))
+    (omega arith, omega arith, rw (div-one (a .n)) (after-none (a .direction) (s .pre .1 .0 .whole) (s .pre .1 .1 .0) (s .pre .1 .1 .1)))
 
 sub-level-of : tie.Need-sub-level-of Inv-loop μ-loop
 sub-level-of c = omega (arith, c .loop-test .taken)
@@ -43,112 +48,87 @@ sub-level-of-2 c = omega (arith, c .loop-test .taken)
 level-of-requires : tie.Need-level-of-requires Inv-loop μ-loop
 level-of-requires c κs = search needs
 
--- a turn: p passes are before it and d after it, and k levels are above its own
-module _ (turn : tie.In-loop Inv-loop μ-loop) where
-  abbrev start : tie.Start Inv-loop μ-loop
-  start = turn .before .before .before .before
-
-  abbrev count : ℕ
-  count = passes (start .args .n)
-
-  abbrev p : ℕ
-  p = turn .before .loop .p
-
-  abbrev d : ℕ
-  d = count - 1 - p
-
-  abbrev k : ℕ
-  k = levelOf (start .args .direction) d p
-
-  state : let a = start .args in
-      After (a .direction) (a .bits) (a .bound) (a .unit) (a .n) (a .filled) (a .lanes) p (2 * 2 ^ d) (now (a .words)) (turn .before .loop .words)
-  state =
-      let left : count - p ≡ suc d = omega (arith, turn .loop-test .taken) in
-      let twice : 2 ^ (count - p) ≡ 2 * 2 ^ d = ap (λ (l : ℕ). 2 ^ l) left ∙ two-pow-succ d ∙ omega arith in
-      rw twice at (turn .before .loop .inv .1)
-
--- its level
-sizes : (c : tie.After-level-of Inv-loop μ-loop) → let a = start (c .before) .args in
-    Level (length (now (a .words))) (a .n) (a .lanes) (a .unit) (a .bits) (c .level-of .result) (k (c .before))
-sizes c =
-    let turn = c .before in
-    let s = start turn in
-    let whole : p turn + suc (d turn) ≡ count turn = omega (arith, turn .loop-test .taken) in
-    level (s .pre .0) (s .pre .1 .0) (c .level-of .result) (k turn)
-    (ap (λ (l : ℕ). l + suc (k turn)) (c .level-of .ensures) ∙ levels-meet (s .args .direction) (p turn) (d turn) whole)
-
 add-half : tie.Need-add-half Inv-loop μ-loop
-add-half c = omega (arith, sizes c .low)
+add-half c = omega (arith, low c, start (c .before) .pre .1 .0 .short)
 
 cast-half : tie.Need-cast-half Inv-loop μ-loop
-cast-half c = omega (arith, sizes c .low)
+cast-half c = omega (arith, low c, start (c .before) .pre .1 .0 .short)
 
 shr-half : tie.Need-shr-half Inv-loop μ-loop
-shr-half c = omega (arith, sizes c .low)
+shr-half c = omega (arith, low c, start (c .before) .pre .1 .0 .short)
 
 lesser-requires : tie.Need-lesser-requires Inv-loop μ-loop
 lesser-requires c κs = search needs
 
 mul-pass : tie.Need-mul-pass Inv-loop μ-loop
-mul-pass c = let z = sizes (c .before .before) in rw (z .half) (omega (arith, z .inside))
+mul-pass c =
+    let leveled = c .before .before in
+    let s = start (leveled .before) in
+    omega (arith, mul-le-mul-right (s .args .lanes) (div-le-self (s .args .n) (2 ^ (leveled .level-of .result + 1))), s .pre .1 .0 .whole)
 
-shl-pass : tie.Need-shl-pass Inv-loop μ-loop
-shl-pass c = omega (arith, sizes (c .before .before) .low)
+unit-of-requires : tie.Need-unit-of-requires Inv-loop μ-loop
+unit-of-requires c κs =
+    let leveled = c .before .before in
+    let s = start (leveled .before) in
+    (omega (arith, low leveled, s .pre .1 .0 .short), omega (arith, unit-most (s .pre .0) (s .pre .1 .0) (leveled .level-of .result) (low leveled)))
 
-cast-pass : tie.Need-cast-pass Inv-loop μ-loop
-cast-pass c = let turn = c .before .before .before in omega (arith, start turn .pre .1 .0 .short, turn .loop-test .taken)
+-- the points of a turn before the call of `pass`, and what is computed for it
+module _ (united : tie.After-unit-of Inv-loop μ-loop) where
+  abbrev bounded : tie.After-lesser Inv-loop μ-loop
+  bounded = united .before .before
 
-shl-pass-2 : tie.Need-shl-pass-2 Inv-loop μ-loop
-shl-pass-2 c = let turn = c .before .before .before in omega (arith, start turn .pre .1 .0 .short, turn .loop-test .taken)
+  abbrev leveled : tie.After-level-of Inv-loop μ-loop
+  leveled = bounded .before
 
--- the rows of the pass
-chosen : (c : tie.After-lesser Inv-loop μ-loop) → let turn = c .before .before in c .lesser .result ≡ min (start turn .args .filled) (2 ^ k turn)
-chosen c = rw (sizes (c .before) .half) at (c .lesser .ensures)
+  abbrev turn : tie.In-loop Inv-loop μ-loop
+  turn = leveled .before
+
+  call : let a = start turn .args in
+      Call (a .direction) (a .n) (a .filled) (a .unit) (a .bound) (turn .before .loop .p) (turn .before .before .step-of .result) (leveled .level-of .result)
+      (bounded .lesser .result) (united .unit-of .result) (turn .before .loop .most)
+  call = record {
+    step-is = turn .before .before .step-of .ensures;
+    level-is = leveled .level-of .ensures;
+    rows-are = bounded .lesser .ensures;
+    unit-is = united .unit-of .ensures;
+    bound-is = turn .before .loop .inv .1;
+  }
 
 pass-requires : tie.Need-pass-requires Inv-loop μ-loop
 pass-requires c κs =
-    let leveled = c .before .before in
-    let turn = leveled .before in
+    let s = start (turn c) in
+    pass-asks (s .pre .0) (s .pre .1 .0) (s .pre .1 .1 .1) (turn c .loop-test .taken) (call c) refl (turn c .before .loop .inv .2)
+
+mul-most : tie.Need-mul-most Inv-loop μ-loop
+mul-most c =
+    let turn = turn (c .before .before .before) in
     let s = start turn in
-    let a = s .args in
-    let z = sizes leveled in
-    let rows = c .before .lesser .result in
-    let is = chosen (c .before) in
-    let some = filled-some (a .direction) (a .lanes) (now (a .words)) (omega (arith, s .pre .1 .0 .power, pow-pos (count turn))) (s .pre .1 .1 .1) in
-    rw (z .half, z .unit-shl, doubled-shl (s .pre .0) (s .pre .1 .0) (p turn) (turn .loop-test .taken)) (
-      doubled-bound (s .pre .0) (s .pre .1 .0) (p turn) (turn .loop-test .taken),
-      ((record { blocks = 2 ^ leveled .level-of .result; whole = state turn .size ∙ z .whole }, sized z rows (omega (arith, is, some, pow-pos (k turn))) (omega (arith, is))), state turn .most),
-    )
+    let loop = turn .before .loop in
+    omega (arith, loop .inv .1, doubled-bound (s .pre .0) (s .pre .1 .0) (loop .p) (turn .loop-test .taken) .fits)
 
 add-p : tie.Need-add-p Inv-loop μ-loop
-add-p c = omega (arith, c .before .before .before .before .before .before .loop-test .taken)
+add-p c = omega (arith, turn (c .before .before .before) .loop-test .taken)
 
 loop-less : tie.Need-loop-less Inv-loop μ-loop
-loop-less c = omega (arith, c .before .before .before .before .before .before .loop-test .taken)
+loop-less c = omega (arith, turn (c .before .before .before) .loop-test .taken)
 
 loop-again : tie.Need-loop-again Inv-loop μ-loop
 loop-again c =
     let called = c .before .before in
-    let bounded = called .before .before in
-    let leveled = bounded .before in
-    let turn = leveled .before in
+    let united = called .before in
+    let turn = turn united in
     let s = start turn in
-    let a = s .args in
-    let grid = s .pre .1 .0 in
-    let z = sizes leveled in
-    let is = leveled .level-of .ensures in
-    let passed =
-    rw (turn .before .before .step-of .ensures, z .half, z .unit-shl, doubled-shl (s .pre .0) grid (p turn) (turn .loop-test .taken), chosen bounded, is)
-    at (called .pass .ensures) in
-    let more =
-    after-more (a .direction) (p turn) (d turn) (rw is at z) (s .pre .0 .half .bits-low) (s .pre .1 .1 .1)
-    (power-le (s .pre .0) grid (p turn) (turn .loop-test .taken)) refl (called .pass .kept .0)
-    (state turn) passed in
-    let left : d turn ≡ count turn - (p turn + 1) = omega (arith, turn .loop-test .taken) in
-    (omega (arith, turn .loop-test .taken), rw (add-one (p turn)) (rw (left ∙ ap (λ (i : ℕ). count turn - i) (add-one (p turn))) at more))
+    let loop = turn .before .loop in
+    let twice : loop .most * 2 ≡ s .args .bound * 2 ^ (loop .p + 1) =
+    ap (λ (e : ℕ). e * 2) (loop .inv .1) ∙ rw (add-one (loop .p), two-pow-succ (loop .p)) (omega arith) in (
+      omega (arith, turn .loop-test .taken),
+      twice,
+      after-more (s .pre .0) (s .pre .1 .0) (s .pre .1 .1 .1) (turn .loop-test .taken) (call united) refl (loop .inv .2) (called .pass .kept .0)
+          (called .pass .ensures),
+    )
 
 same-length : tie.Need-same-length Inv-loop μ-loop
-same-length c = c .before .loop .inv .1 .size
+same-length c = c .before .loop .inv .2 .size
 
 returns : tie.Need-returns Inv-loop μ-loop
 returns c =
@@ -157,13 +137,10 @@ returns c =
     let a = s .args in
     let count = passes (a .n) in
     let end : loop .p ≡ count = omega (arith, c .loop-test .left, loop .inv .0) in
-    let one : 2 ^ (count - count) ≡ 1 = ap (λ (l : ℕ). 2 ^ l) (none count) in
+    let one : a .n / 2 ^ count ≡ 1 = quotient (s .pre .0) (s .pre .1 .0) count 0 (omega arith) in
     let all : After (a .direction) (a .bits) (a .bound) (a .unit) (a .n) (a .filled) (a .lanes) count 1 (now (a .words)) (loop .words) =
-    rw (end, one) at (loop .inv .1) in
+    rw (end, one) at (loop .inv .2) in
     (after-all (a .direction) (s .pre .1 .0 .power) all, all .most)
-  where
-    none : (l : ℕ) → l - l ≡ 0
-    none l = omega arith
 
 pub transform-lanes-spec : {M : Type 1} → statement M
 transform-lanes-spec =
@@ -181,10 +158,9 @@ transform-lanes-spec =
     shr-half
     lesser-requires
     mul-pass
-    shl-pass
-    cast-pass
-    shl-pass-2
+    unit-of-requires
     pass-requires
+    mul-most
     add-p
     loop-less
     loop-again
