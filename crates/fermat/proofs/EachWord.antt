@@ -8,18 +8,18 @@ use lib.ListN.{length, getD, set, length-set}
 use lib.Seq.{getD-set-same, getD-set-other}
 
 -- R p a b: at place p the word a becomes b
-pub record Passed (R : ℕ → ℕ → ℕ → Type 0) (i : ℕ) (xs ys : List ℕ) : Type 0 where
+pub record WordsDone (R : ℕ → ℕ → ℕ → Type 0) (i : ℕ) (xs ys : List ℕ) : Type 0 where
   pub size : length ys ≡ length xs
   pub done : (p : ℕ) → p < i → R p (getD xs p 0) (getD ys p 0)
   pub left : (p : ℕ) → i ≤ p → getD ys p 0 ≡ getD xs p 0
 
 module _ {R : ℕ → ℕ → ℕ → Type 0} {xs : List ℕ} where
-  pub pass-none : Passed R 0 xs xs
-  pass-none = record { size = refl; done = λ p l. absurd (omega arith); left = λ p l. refl }
+  pub words-none : WordsDone R 0 xs xs
+  words-none = record { size = refl; done = λ p l. absurd (omega arith); left = λ p l. refl }
 
-  pub pass-next : {ys : List ℕ} {i : ℕ} (x : ℕ) → i < length xs → Passed R i xs ys → R i (getD ys i 0) x
-      → Passed R (i + 1) xs (set ys i x)
-  pass-next {ys} {i} x l w r = record {
+  pub words-next : {ys : List ℕ} {i : ℕ} (x : ℕ) → i < length xs → WordsDone R i xs ys → R i (getD ys i 0) x
+      → WordsDone R (i + 1) xs (set ys i x)
+  words-next {ys} {i} x l w r = record {
     size = length-set ys i x ∙ w .size;
     done = λ p lp. go p lp (ℕ-discrete p i);
     left = λ p lp. getD-set-other ys i p x 0 (λ e. omega arith) ∙ w .left p (omega arith);

@@ -22,7 +22,7 @@ use Rattle.fermat.specs.Answer.{Accepted, row}
 lane : (xs : List ℕ) (i : ℕ) → word 1 i 0 xs ≡ getD xs i 0
 lane xs i = ap (λ (p : ℕ). getD xs p 0) (omega arith)
 
--- what the transforms by halving ask of accepted words
+-- what the transforms in passes ask of accepted words
 module _ {t : ℕ} {xs : List ℕ} (a : Accepted t xs) where
   pub row-most : AtMost (2 * modulus t) xs
   row-most i l = omega (arith, a .below i l)
@@ -35,7 +35,7 @@ module _ {t : ℕ} {xs : List ℕ} (a : Accepted t xs) where
   row-filled = record { some = omega (arith, a .size, pow-pos (t + 1)); empty = λ i h l. absurd (omega arith) }
 
 module _ (t : ℕ) (xs ys zs us : List ℕ) (size-y : length ys ≡ points t) (size-z : length zs ≡ points t) (size-u : length us ≡ points t) where
-  -- by halving, then in order, then reduced
+  -- in passes, then in order, then reduced
   pub forward-row : Forward (modulus t) 2 (t + 1) 1 xs ys → Permuted (reversed (t + 1)) ys zs
       → ((i : ℕ) → i < length zs → getD us i 0 ≡ (1 * getD zs i 0) % modulus t) → us ≡ row transformIn t xs
   unfolding row transformAt
@@ -44,7 +44,7 @@ module _ (t : ℕ) (xs ys zs us : List ℕ) (size-y : length ys ≡ points t) (s
       reduced k (omega arith) ∙ ap (λ (x : ℕ). x % modulus t) (one-mul (getD zs k 0) ∙ ordered k (omega arith) ∙ sym (lane ys (reversed (t + 1) k)))
       ∙ (forward k 0 l (omega arith) ⨟ c-power-sum (points t) 2 _ (λ i. getD xs i 0) k (λ i _. c-eq (lane xs i))) .same)
 
-  -- in bit-reversed order, then by halving, then scaled
+  -- in bit-reversed order, then in passes, then scaled
   pub inverse-row : length xs ≡ points t → Permuted (reversed (t + 1)) xs ys → Inverse (modulus t) (half t) (t + 1) 1 ys zs
       → ((i : ℕ) → i < length zs → getD us i 0 ≡ (scale t * getD zs i 0) % modulus t) → us ≡ row inverseIn t xs
   unfolding row inverseAt

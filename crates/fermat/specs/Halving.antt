@@ -1,4 +1,4 @@
--- What the contracts of the transforms of lanes say. A buffer holds 2 ^ l rows of `lanes` words; each lane is a transform of its own.
+-- What the transforms of lanes leave. A buffer holds 2 ^ l rows of `lanes` words; each lane is a transform of its own.
 -- The forward transform leaves the entry of frequency k in the row whose index has the bits of k in reverse order; the inverse takes
 -- rows in that order and leaves them in their own.
 use mathlib.Core.Path.{_≡_}

@@ -1,5 +1,5 @@
--- A transform of length 2 h from two of length h, in both ways: the forward code splits the frequencies into even and odd ones, the
--- inverse code joins the sums over the even and the odd places.
+-- A transform of length 2 h from two of length h, in both ways: the forward transform splits the frequencies into even and odd
+-- ones, the inverse joins the sums over the even and the odd places.
 use mathlib.Core.Path.{_≡_, refl, sym, ap, ap₂, _∙_}
 use Prim.Native.Nat.{ℕ, _+_, _*_, _^_, _<_}
 use native.Mathlib.Nat.{mul-comm}

@@ -9,7 +9,7 @@ use lib.ListN.{getD}
 use Rattle.algebra.specs.Congruence.{Cong}
 use Rattle.fermat.specs.Field.{modulus, points, scale}
 
--- a word of a transformed tile is at most this: loaded words are at most twice the modulus, and both passes multiply that by N
+-- a word of a transformed tile is at most this: loaded words are at most twice the modulus, and both transforms multiply that by N
 abbrev pub factorMost : ℕ → ℕ
 factorMost t = 2 * modulus t * points t * points t
 

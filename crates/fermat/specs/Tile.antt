@@ -31,7 +31,7 @@ Recovered t xs ys =
     (z : ℕ → ℕ → ℕ) → Spectrum t z 0 xs → (r j : ℕ) → r < points t → j < points t
     → word (points t) r j ys ≡ (z r j + 2 ^ (2 ^ t) / 2) % modulus t
 
--- the sizes of a tile of s words: its side is the length of the transform at 2, and there is room for two passes
+-- the sizes of a tile of s words: its side is the length of the transform at 2, and there is room for both transforms
 pub record Square (s n l b c : ℕ) : Type 0 where
   pub whole : s ≡ n * n
   pub side : n ≡ 2 ^ l

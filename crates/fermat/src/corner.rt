@@ -1,5 +1,5 @@
 // The forward transform of a tile of which only the corner is not 0: the first k of its n rows and columns, such as a kernel fills.
-// The first pass runs over k columns instead of n, and both passes leave out the butterflies of rows that are 0.
+// The columns are k lanes instead of n, and both transforms leave out the butterflies of rows that are 0.
 ghost use mathlib.Core.Path.{_≡_};
 ghost use Prim.Native.Nat.{ℕ, _+_, _*_, _^_, _<_, _≤_};
 ghost use lib.ListN.{length, getD};

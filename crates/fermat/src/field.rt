@@ -3,7 +3,7 @@ ghost use mathlib.Core.Path.{_≡_};
 ghost use Prim.Native.Nat.{_+_, _^_, _≤_};
 ghost use Rattle.fermat.specs.Field.{modulus, points, scale};
 
-// The levels of a transform: it halves its length so often.
+// The levels of a transform: it makes a pass at each.
 pub(crate) fn levels_of(field: usize) -> u32
     requires { ⌜ field ≤ 5 ⌝ }
     ensures { λ r. ⌜ r ≡ field + 1 ⌝ }

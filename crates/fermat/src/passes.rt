@@ -1,7 +1,7 @@
 // The transform of each lane, in passes over one array: as many as its length n has trailing zero bits. It serves a row (one lane), a tile (as
-// many lanes as rows) and a corner of a tile (some rows filled, the others 0).
-// At level i the n rows are 2^i blocks of n / 2^i rows. The forward transform goes up the levels, and its pass at level i splits every block
-// into two; the inverse goes down, and its pass at level i joins every two halves of a block.
+// many lanes as rows) and the corner of a tile (the other rows 0).
+// At level i the n rows are 2^i blocks of n / 2^i rows. The forward transform goes up the levels: its pass splits every block into two
+// (textbooks: decimation in frequency). The inverse goes down: its pass joins the two halves of every block (decimation in time).
 ghost use mathlib.Core.Path.{_≡_};
 ghost use Prim.Native.Nat.{_+_, _-_, _*_, _^_, _<_};
 ghost use lib.ListN.{length};
@@ -12,6 +12,7 @@ use crate::butterfly::Step;
 use crate::butterfly::stage;
 use crate::number::lesser;
 
+// Which way a transform goes.
 pub enum Direction {
     Forward,
     Inverse,
@@ -45,9 +46,8 @@ fn unit_of(unit: u32, level: u32) -> u32
     unit << level
 }
 
-// One pass. Its blocks: two halves of `half` words each, one block after the other. Its pairs: row r of the first half of a block with row r of
-// the second, for the first `rows` rows; the others are left as they are. Its powers: row r takes 2^(unit r), the power r of the root 2^unit of
-// the pass.
+// One pass. Its blocks: all words, in blocks of two halves of `half` words. Its pairs: in each block, row r of the first half and row r of the
+// second, for the first `rows` rows; the others are left as they are. Its powers: 2^(unit r) for row r, where 2^unit is the root of the pass.
 fn pass(
     words: &mut [u64],
     rows: usize,

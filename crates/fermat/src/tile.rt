@@ -1,5 +1,5 @@
-// The transform pair of a tile: n rows of n words, n lanes in each pass. The forward transform leaves rows and columns in each other's
-// place and in bit-reversed order; the inverse takes them so. Words are congruent and bounded, as in `halving`.
+// The transform pair of a tile: n rows of n words, columns first, then rows, each as n lanes. The forward transform leaves rows and columns in
+// each other's place and in bit-reversed order; the inverse takes them so. Words are congruent and bounded, as in `passes`.
 ghost use Prim.Native.Nat.{_+_, _-_, _*_, _^_};
 ghost use lib.ListN.{length};
 ghost use Rattle.fermat.specs.Butterfly.{Bound, AtMost};

@@ -8,7 +8,7 @@ use Rattle.algebra.specs.Congruence.{Cong}
 use Rattle.algebra.specs.CongruenceLaws.{c-refl, c-add}
 use Rattle.fermat.specs.Field.{modulus}
 use Rattle.fermat.specs.Product.{factorMost, productMost}
-use Rattle.fermat.proofs.EachWord.{Passed, pass-none, pass-next}
+use Rattle.fermat.proofs.EachWord.{WordsDone, words-none, words-next}
 use native.Mathlib.Omega.{arith}
 use borrow.Author.Needs.{needs}
 use Rattle.fermat.proofs.product.accumulate.Statement.{statement}
@@ -21,7 +21,7 @@ record Summed (field count : ℕ) (xs : List ℕ) (p a b : ℕ) : Type 0 where
 
 abbrev Inv-loop : tie.InvT-loop
 Inv-loop scratch₀ count field i₀ scratch i =
-    (i ≤ count) × Passed (Summed field count scratch₀) i scratch₀ scratch
+    (i ≤ count) × WordsDone (Summed field count scratch₀) i scratch₀ scratch
 
 abbrev μ-loop : tie.MeasureT-loop
 μ-loop scratch₀ count field i₀ scratch i = count - i
@@ -42,7 +42,7 @@ product-most field = go (eqb field 4)
     go false = omega arith
 
 loop-holds : tie.Need-loop-holds Inv-loop μ-loop
-loop-holds c = (omega arith, pass-none)
+loop-holds c = (omega arith, words-none)
 
 add-second : tie.Need-add-second Inv-loop μ-loop
 add-second c = search needs
@@ -106,7 +106,7 @@ loop-again c =
     let third = loop .inv .1 .left (s .args .count + (s .args .count + loop .i)) (omega arith) in
     let made = rw (second, third) at (c .product .ensures) in (
       omega (arith, turn),
-      pass-next _ (omega (arith, turn, s .pre)) (loop .inv .1)
+      words-next _ (omega (arith, turn, s .pre)) (loop .inv .1)
           (record { value = c-add c-refl (made .value); bound = omega (arith, made .bound) }),
     )
 

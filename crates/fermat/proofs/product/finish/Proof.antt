@@ -4,14 +4,14 @@ use Prim.Native.Nat.{_-_, _≤_}
 use lib.ListN.{length}
 use Rattle.fermat.specs.Product.{finishedOf}
 use Rattle.fermat.proofs.Finish.{field-finishing, field-finished}
-use Rattle.fermat.proofs.EachWord.{Passed, pass-none, pass-next}
+use Rattle.fermat.proofs.EachWord.{WordsDone, words-none, words-next}
 use native.Mathlib.Omega.{arith}
 use borrow.Author.Needs.{needs}
 use Rattle.fermat.proofs.product.finish.Statement.{statement}
 use Rattle.fermat.proofs.product.finish.Tie as tie
 
 abbrev Inv-loop : tie.InvT-loop
-Inv-loop words₀ field bits rest i₀ words i = (i ≤ length words₀) × Passed (λ _ a b. b ≡ finishedOf field a) i words₀ words
+Inv-loop words₀ field bits rest i₀ words i = (i ≤ length words₀) × WordsDone (λ _ a b. b ≡ finishedOf field a) i words₀ words
 
 abbrev μ-loop : tie.MeasureT-loop
 μ-loop words₀ field bits rest i₀ words i = length words₀ - i
@@ -26,7 +26,7 @@ mul-rest : tie.Need-mul-rest Inv-loop μ-loop
 mul-rest c = search needs
 
 loop-holds : tie.Need-loop-holds Inv-loop μ-loop
-loop-holds c = (omega arith, pass-none)
+loop-holds c = (omega arith, words-none)
 
 mul-finished : tie.Need-mul-finished Inv-loop μ-loop
 mul-finished c = search needs
@@ -60,7 +60,7 @@ loop-again c =
     let loop = c .before .before .before .loop in
     let s = c .before .before .before .before .before .before .before in
     let made = rw (c .before .before .before .before .before .bits-of .ensures, c .before .before .before .before .levels-of .ensures) at (c .finished .ensures) in
-    (omega arith, pass-next _ (omega arith) (loop .inv .1) (field-finished (s .args .field) (s .pre .0 .0) (s .pre .0 .1) _ _ made))
+    (omega arith, words-next _ (omega arith) (loop .inv .1) (field-finished (s .args .field) (s .pre .0 .0) (s .pre .0 .1) _ _ made))
 
 same-length : tie.Need-same-length Inv-loop μ-loop
 same-length c = search needs

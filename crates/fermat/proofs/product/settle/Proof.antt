@@ -2,20 +2,20 @@
 use Prim.Native.Nat.{_-_, _≤_}
 use lib.ListN.{length}
 use Rattle.fermat.specs.Product.{Settled}
-use Rattle.fermat.proofs.EachWord.{Passed, pass-none, pass-next}
+use Rattle.fermat.proofs.EachWord.{WordsDone, words-none, words-next}
 use native.Mathlib.Omega.{arith}
 use borrow.Author.Needs.{needs}
 use Rattle.fermat.proofs.product.settle.Statement.{statement}
 use Rattle.fermat.proofs.product.settle.Tie as tie
 
 abbrev Inv-loop : tie.InvT-loop
-Inv-loop words₀ field i₀ words i = (i ≤ length words₀) × Passed (λ _ a b. Settled field a b) i words₀ words
+Inv-loop words₀ field i₀ words i = (i ≤ length words₀) × WordsDone (λ _ a b. Settled field a b) i words₀ words
 
 abbrev μ-loop : tie.MeasureT-loop
 μ-loop words₀ field i₀ words i = length words₀ - i
 
 loop-holds : tie.Need-loop-holds Inv-loop μ-loop
-loop-holds c = (omega arith, pass-none)
+loop-holds c = (omega arith, words-none)
 
 mul-settled : tie.Need-mul-settled Inv-loop μ-loop
 mul-settled c = search needs
@@ -41,7 +41,7 @@ loop-less c = search needs
 loop-again : tie.Need-loop-again Inv-loop μ-loop
 loop-again c =
     let loop = c .before .before .before .loop in
-    (omega arith, pass-next _ (omega arith) (loop .inv .1) (c .settled .ensures))
+    (omega arith, words-next _ (omega arith) (loop .inv .1) (c .settled .ensures))
 
 same-length : tie.Need-same-length Inv-loop μ-loop
 same-length c = search needs

@@ -1,4 +1,4 @@
--- `scale` replaces word after word by its multiple. It rests on the law of such passes.
+-- `scale` replaces word after word by its multiple. It rests on the law of such loops.
 use mathlib.Core.Path.{_≡_}
 use Prim.Native.Nat.{ℕ, _-_, _*_, _%_, _<_, _≤_}
 use native.Mathlib.Nat.{mod-lt, mul-le-mul-left}
@@ -6,12 +6,12 @@ use native.Mathlib.Omega.{arith}
 use borrow.Author.Needs.{needs}
 use lib.ListN.{length, getD}
 use Rattle.algebra.specs.CongruenceLaws.{c-refl, c-mul, c-mod}
-use Rattle.fermat.proofs.EachWord.{Passed, pass-none, pass-next}
+use Rattle.fermat.proofs.EachWord.{WordsDone, words-none, words-next}
 use Rattle.fermat.proofs.residues.scale.Statement.{statement}
 use Rattle.fermat.proofs.residues.scale.Tie as tie
 
 abbrev Inv-loop : tie.InvT-loop
-Inv-loop words₀ s m i₀ words i = (i ≤ length words₀) × Passed (λ _ a b. b ≡ (s * a) % m) i words₀ words
+Inv-loop words₀ s m i₀ words i = (i ≤ length words₀) × WordsDone (λ _ a b. b ≡ (s * a) % m) i words₀ words
 
 abbrev μ-loop : tie.MeasureT-loop
 μ-loop words₀ s m i₀ words i = length words₀ - i
@@ -24,7 +24,7 @@ fits s m x h =
     omega arith
 
 loop-holds : tie.Need-loop-holds Inv-loop μ-loop
-loop-holds c = (omega arith, pass-none)
+loop-holds c = (omega arith, words-none)
 
 mul-words : tie.Need-mul-words Inv-loop μ-loop
 mul-words c = search needs
@@ -59,7 +59,7 @@ loop-less c = search needs
 loop-again : tie.Need-loop-again Inv-loop μ-loop
 loop-again c =
     let L = c .before .before .loop in
-    (omega arith, pass-next _ (omega arith) (L .inv .1) (c-mul (c-refl {a = c .before .before .before .args .s}) c-mod .same))
+    (omega arith, words-next _ (omega arith) (L .inv .1) (c-mul (c-refl {a = c .before .before .before .args .s}) c-mod .same))
 
 same-length : tie.Need-same-length Inv-loop μ-loop
 same-length c = search needs
