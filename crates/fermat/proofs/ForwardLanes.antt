@@ -31,46 +31,48 @@ forward-lanes-none b unit n filled lanes xs size zeros = record {
     first : (q s i : ℕ) → q < 1 → q * s + i ≡ i
     first q s i l = let z : q ≡ 0 = omega arith in rw z (omega (arith, zero-mul s))
 
-module _ {s n lanes unit b c filled p h : ℕ} {xs ys zs : List ℕ} (level : Level s lanes unit b (2 ^ p) h) (before : ForwardLanes b unit n filled lanes p (2 * h) xs ys)
-    (size : length ys ≡ s) (passed : Passed Forward b c (unit * 2 ^ p) (min filled (h)) lanes (h * lanes) ys zs) where
+module _ {s n lanes unit b c filled p h : ℕ} {xs ys zs : List ℕ} (level : Level s lanes unit b (2 ^ p) h)
+    (before : ForwardLanes b unit n filled lanes p (2 * h) xs ys) (size : length ys ≡ s)
+    (passed : Passed Forward b c (unit * 2 ^ p) (min filled h) lanes (h * lanes) ys zs) where
   abbrev half : ℕ
   half = h * lanes
 
-  minus : Cong (2 ^ b + 1) (((2 ^ unit) ^ (2 ^ p)) ^ (h) + 1) 0
+  minus : Cong (2 ^ b + 1) (((2 ^ unit) ^ (2 ^ p)) ^ h + 1) 0
   minus =
-      c-via (ap (λ (i : ℕ). i + 1) (sym (pass-root 2 unit (2 ^ p) (h)) ∙ ap (λ (i : ℕ). 2 ^ i) (level .turns))) (c-via (omega arith) (c-multiple 0 1) refl) refl
+      c-via (ap (λ (i : ℕ). i + 1) (sym (pass-root 2 unit (2 ^ p) h) ∙ ap (λ (i : ℕ). 2 ^ i) (level .turns)))
+      (c-via (omega arith) (c-multiple 0 1) refl) refl
 
   wide : 2 * h * lanes ≡ 2 * half
   wide = omega arith
 
-  -- a pair of rows past the filled ones
+  -- a word of a row past the filled ones
   none : (q i : ℕ) → q < 2 ^ p → filled * lanes ≤ i → i < 2 * half → getD ys (q * (2 * half) + i) 0 ≡ 0
   none q i lq lo hi = rw wide at (before .empty q i lq lo (omega (arith, wide)))
 
-  empty : Empty (2 ^ p) (min filled (h) * lanes) half ys
+  empty : Empty (2 ^ p) (min filled h * lanes) half ys
   empty q i lq lo hi =
-      let from : filled * lanes ≤ i = past filled (h) i lo hi (decLt filled (h)) in
+      let from : filled * lanes ≤ i = past filled h i lo hi (decLt filled h) in
       (none q i lq from (omega arith), none q (half + i) lq (omega arith) (omega arith))
     where
       past : (filled h i : ℕ) → min filled h * lanes ≤ i → i < h * lanes → Dec (filled < h) → filled * lanes ≤ i
       past filled h i lo hi (yes l) = let e : min filled h ≡ filled = omega arith in rw e at lo
       past filled h i lo hi (no l) = let e : min filled h ≡ h = omega arith in let all : h * lanes ≤ i = rw e at lo in absurd (omega arith)
 
-  pub forward-lanes-more : ForwardLanes b unit n filled lanes (suc p) (h) xs zs
+  pub forward-lanes-more : ForwardLanes b unit n filled lanes (suc p) h xs zs
   forward-lanes-more = record {
-    lane = λ j lj. forward-more (h) minus (before .lane j lj) (rooted (rows-made (omega arith) passed (2 ^ p) (size ∙ level .whole) empty j lj));
+    lane = λ j lj. forward-more h minus (before .lane j lj) (rooted (rows-made (omega arith) passed (2 ^ p) (size ∙ level .whole) empty j lj));
     empty = after;
   }
     where
-      rooted : {y z : ℕ → ℕ} → EachBlock (2 ^ p) (h) (λ r. Parted (2 ^ b + 1) (2 * c) (2 ^ (unit * 2 ^ p * r))) y z
-          → EachBlock (2 ^ p) (h) (λ r. Parted (2 ^ b + 1) (2 * c) (((2 ^ unit) ^ (2 ^ p)) ^ r)) y z
+      rooted : {y z : ℕ → ℕ} → EachBlock (2 ^ p) h (λ r. Parted (2 ^ b + 1) (2 * c) (2 ^ (unit * 2 ^ p * r))) y z
+          → EachBlock (2 ^ p) h (λ r. Parted (2 ^ b + 1) (2 * c) (((2 ^ unit) ^ (2 ^ p)) ^ r)) y z
       rooted all = record { pair = λ q r lq lr. rw (pass-root 2 unit (2 ^ p) r) at (all .pair q r lq lr) }
 
       -- a block of half the length is one half of a block
       after : (q i : ℕ) → q < 2 ^ suc p → filled * lanes ≤ i → i < half → getD zs (q * half + i) 0 ≡ 0
       after q i lq lo hi =
           let lq' : q / 2 < 2 ^ p = omega (arith, two-pow-succ p) in
-          let le : min filled (h) * lanes ≤ filled * lanes = mul-le-mul-right lanes (min-le-left filled (h)) in
+          let le : min filled h * lanes ≤ filled * lanes = mul-le-mul-right lanes (min-le-left filled h) in
           go (empty-after passed (2 ^ p) (size ∙ level .whole) empty (q / 2) i lq' (omega arith) hi) (ℕ-discrete (q % 2) 0)
         where
           go : (getD zs (q / 2 * (2 * half) + i) 0 ≡ 0) × (getD zs (q / 2 * (2 * half) + (half + i)) 0 ≡ 0) → Dec (q % 2 ≡ 0) → getD zs (q * half + i) 0 ≡ 0

@@ -22,7 +22,7 @@ pub level-lt : (direction : Direction) (p l : ℕ) → p < l → levelOf directi
 level-lt Forward p l h = h
 level-lt Inverse p l h = omega arith
 
--- g blocks of two halves of h rows, in all s words
+-- the numbers of g blocks of two halves of h rows, s words in all: h is half the period of 2 ^ (unit g), whose power h is then 2 ^ b, or −1
 pub record Level (s lanes unit b g h : ℕ) : Type 0 where
   pub whole : s ≡ g * (2 * (h * lanes))
   pub turns : unit * g * h ≡ b
@@ -42,30 +42,25 @@ module _ {s n lanes unit b c : ℕ} (bound : Bound b c) (grid : Grid s n lanes u
 
   pub level : (i : ℕ) → i < passes n → Level s lanes unit b (2 ^ i) (n / 2 ^ (i + 1))
   level i l =
-      let k : ℕ = passes n - (i + 1) in
-      let rows : n ≡ 2 ^ i * (2 ^ k + 2 ^ k) =
-      grid .power ∙ ap (λ (e : ℕ). 2 ^ e) (parts i (passes n) l) ∙ pow-add 2 i (suc k) ∙ ap (λ (e : ℕ). 2 ^ i * e) (two-pow-succ k) in
-      rw (quotient (i + 1) k (omega arith)) (made (2 ^ i) (2 ^ k) rows)
+      let g : ℕ = 2 ^ i in
+      let h : ℕ = n / 2 ^ (i + 1) in
+      let k : ℕ = passes n - i in
+      let rows : n ≡ g * (2 * h) =
+      grid .power ∙ ap (λ (e : ℕ). 2 ^ e) (omega arith) ∙ pow-add 2 i k ∙ ap (λ (e : ℕ). g * e) (sym (quotient i k (omega arith)) ∙ halved i l) in
+      let period : 2 * (unit * g * h) ≡ 2 * b = twice unit g h ∙ ap (λ (e : ℕ). unit * e) (sym rows) ∙ grid .period in
+      let some : 0 < unit * g * h = omega (arith, bound .half .bits-low) in
+      record {
+        whole = grid .whole ∙ ap (λ (e : ℕ). e * lanes) rows ∙ by-lanes g h lanes;
+        turns = omega (arith, period);
+        step = pos-of-dvd-of-pos (dvd-mul-right (unit * g) h) some;
+        some = pos-of-dvd-of-pos (dvd-mul-left h (unit * g)) some;
+      }
     where
-      parts : (i l : ℕ) → i < l → l ≡ i + suc (l - (i + 1))
-      parts i l h = omega arith
-
-      by-lanes : (g h lanes : ℕ) → g * (h + h) * lanes ≡ g * (2 * (h * lanes))
+      by-lanes : (g h lanes : ℕ) → g * (2 * h) * lanes ≡ g * (2 * (h * lanes))
       by-lanes g h lanes = omega arith
 
-      twice : (u g h : ℕ) → 2 * (u * g * h) ≡ u * (g * (h + h))
+      twice : (u g h : ℕ) → 2 * (u * g * h) ≡ u * (g * (2 * h))
       twice u g h = omega arith
-
-      made : (g h : ℕ) → n ≡ g * (h + h) → Level s lanes unit b g h
-      made g h rows =
-          let period : 2 * (unit * g * h) ≡ 2 * b = twice unit g h ∙ ap (λ (e : ℕ). unit * e) (sym rows) ∙ grid .period in
-          let some : 0 < unit * g * h = omega (arith, bound .half .bits-low) in
-          record {
-            whole = grid .whole ∙ ap (λ (e : ℕ). e * lanes) rows ∙ by-lanes g h lanes;
-            turns = omega (arith, period);
-            step = pos-of-dvd-of-pos (dvd-mul-right (unit * g) h) some;
-            some = pos-of-dvd-of-pos (dvd-mul-left h (unit * g)) some;
-          }
 
   pub power-le : (p : ℕ) → p < passes n → 2 ^ p ≤ n
   power-le p l = omega (arith, grid .power, pow-mono {i = p} {j = passes n} (omega arith))

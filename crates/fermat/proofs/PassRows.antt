@@ -29,9 +29,9 @@ made-zeros Inverse b c t = record {
 }
 
 made-most : (step : Step) (b c t u v y z : ℕ) → Made step b c t u v y z → (y ≤ 2 * c) × (z ≤ 2 * c)
-made-most Plain b c t u v y z m = (m .low, m .high)
-made-most Forward b c t u v y z m = (m .low, m .high)
-made-most Inverse b c t u v y z m = (m .low, m .high)
+made-most Plain b c t u v y z m = (omega (arith, m .low), omega (arith, m .high))
+made-most Forward b c t u v y z m = (omega (arith, m .low), omega (arith, m .high))
+made-most Inverse b c t u v y z m = (omega (arith, m .low), omega (arith, m .high))
 
 -- ---- places
 

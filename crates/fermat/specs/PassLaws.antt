@@ -1,5 +1,5 @@
 -- What the rows hold after each pass, at any root, and that one more pass keeps it so. Rows are a function of their index. It rests on the law by
--- halving, which takes a transform to two of half the length; here it is put to use in every block of a pass.
+-- halving, which makes a transform of two of half the length, in every block of a pass.
 -- Forward, after p passes there are 2 ^ p blocks: block `reversed p k` has as its own transform, at the root to the power 2 ^ p, the entries
 -- k, k + 2 ^ p, k + 2 · 2 ^ p .. of the whole. Inverse, after p passes each block of 2 ^ p rows is the transform of the rows lent there.
 use mathlib.Core.Path.{_≡_, refl, sym, ap, ap₂, _∙_}
@@ -76,7 +76,7 @@ forward-all {m} {n} {w} {p} {x} {y} all k lk =
     c-via (ap y (omega arith) ∙ sym (power-sum-one (w ^ (2 ^ p)) (block 1 (reversed p k) y) 0)) (all .entry k 0 lk (omega arith))
     (ap (powerSum n w x) (omega arith))
 
--- one pass more, where h rows of the root's powers are a half turn
+-- one pass more, where h is half the period of the root of the pass
 module _ {m n w p e : ℕ} (h : ℕ) (minus : Cong m ((w ^ (2 ^ p)) ^ h + 1) 0) {x y z : ℕ → ℕ} (before : ForwardAfter m n w p (2 * h) x y)
     (parted : EachBlock (2 ^ p) h (λ r. Parted m e ((w ^ (2 ^ p)) ^ r)) y z) where
   abbrev v : ℕ
@@ -157,7 +157,7 @@ joined-high {m} {z} {e} {o} {a} {b} {d} t s minus h ce co known =
     h ⨟ c-add (ce ⨟ c-sym known) (c-mul co (c-refl {a = t}))
     ⨟ c-via (omega arith) (c-add (c-refl {a = d}) (c-mul (c-refl {a = b}) minus)) (omega arith)
 
--- one pass more, where t r is less the power r of the root of the pass, of which 2 ^ p rows are a half turn
+-- one pass more, where 2 ^ p is half the period of the root of the pass and t r is minus its power r
 module _ {m v p e : ℕ} (g : ℕ) (t : ℕ → ℕ) (minus : (r : ℕ) → r < 2 ^ p → Cong m (t r + (v ^ g) ^ r) 0) (turn : Cong m ((v ^ g) ^ (2 ^ p) + 1) 0)
     {x y z : ℕ → ℕ} (before : InverseAfter m v p (2 * g) x y) (joined : EachBlock g (2 ^ p) (λ r. Joined m e (t r)) y z) where
   abbrev u : ℕ
