@@ -1,27 +1,31 @@
 -- The two transforms of a tile, of its columns and of its rows: what they make together, the sizes of each, and the bound across a transposition.
 use mathlib.Core.Path.{_≡_, refl, sym, ap, _∙_}
 use mathlib.Core.List.{List}
-use Prim.Native.Nat.{ℕ, _+_, _*_, _%_, _^_, _<_, _≤_}
+use Prim.Native.Nat.{ℕ, _+_, _-_, _*_, _%_, _^_, _<_, _≤_}
 use native.Mathlib.Nat.{zero-add, one-mul, mul-one, mod-eq-of-lt, mul-le-mul-left}
 use native.Mathlib.Omega.{arith}
 use lib.ListN.{length, getD}
 use lib.Pow.{pow-pos}
+use Rattle.algebra.specs.PowerLaws.{pow-one}
 use Rattle.algebra.specs.Congruence.{Cong}
 use Rattle.algebra.specs.CongruenceLaws.{c-eq, _⨟_, c-via}
 use Rattle.fermat.specs.Transform.{powerSum, powerSum2}
 use Rattle.fermat.specs.Order.{reversed, across, Permuted}
 use Rattle.fermat.specs.Butterfly.{Bound, AtMost}
-use Rattle.fermat.specs.Halving.{word, Forward, Inverse, Filled}
-use Rattle.fermat.specs.Passes.{passes, Grid}
+use Rattle.fermat.specs.Halving as Lanes
+use Rattle.fermat.specs.Halving.{word}
+use Rattle.fermat.specs.Passes.{passes, Grid, Pruned, Transformed}
 use Rattle.fermat.specs.PassLaws.{passes-power}
-use Rattle.fermat.specs.Tile.{TileForward, TileInverse, Square}
+use Rattle.fermat.specs.Tile.{TileForward, TileInverse, TileTransformed, Square}
 use Rattle.fermat.specs.TransformLaws.{c-power-sum, power-sum-swap}
 use Rattle.fermat.specs.OrderLaws.{reversed-lt, across-lt, transposed, permuted-most}
+use Rattle.fermat.specs.declared.passes.Direction.{Direction}
+use Rattle.fermat.specs.declared.passes.Direction.the-variants.{Forward, Inverse}
 use Rattle.fermat.proofs.Words.{bound-times}
 use Rattle.fermat.proofs.Levels.{grid}
 
 -- the transform of the rows, where column k in bit-reversed order holds the transforms of the columns of x at k
-pub second-transform : (m w l n : ℕ) (x : ℕ → ℕ → ℕ) (ts zs : List ℕ) → n ≡ 2 ^ l → Forward m w l n ts zs
+pub second-transform : (m w l n : ℕ) (x : ℕ → ℕ → ℕ) (ts zs : List ℕ) → n ≡ 2 ^ l → Lanes.Forward m w l n ts zs
     → ((k j : ℕ) → k < 2 ^ l → j < n → Cong m (word n j (reversed l k) ts) (powerSum (2 ^ l) w (λ r. x r j) k)) → TileForward m w l n x 0 zs
 unfolding powerSum2
 second-transform m w l n x ts zs side rows columns = record {
@@ -34,12 +38,12 @@ second-transform m w l n x ts zs side rows columns = record {
 }
 
 module _ (m w l n : ℕ) (xs ys ts zs : List ℕ) (side : n ≡ 2 ^ l) (size : length ys ≡ n * n) (turned : Permuted (across n) ys ts) where
-  pub tile-forward : Forward m w l n xs ys → Forward m w l n ts zs → TileForward m w l n (λ r j. word n r j xs) 0 zs
+  tile-forward : Lanes.Forward m w l n xs ys → Lanes.Forward m w l n ts zs → TileForward m w l n (λ r j. word n r j xs) 0 zs
   tile-forward columns rows =
       second-transform m w l n (λ r j. word n r j xs) ts zs side rows
       (λ k j lk lj. c-eq (transposed ys ts turned size j (reversed l k) lj (omega (arith, reversed-lt l k lk))) ⨟ columns k j lk lj)
 
-  pub tile-inverse : Inverse m w l n xs ys → Inverse m w l n ts zs → TileInverse m w l n xs zs
+  tile-inverse : Lanes.Inverse m w l n xs ys → Lanes.Inverse m w l n ts zs → TileInverse m w l n xs zs
   unfolding powerSum2
   tile-inverse columns rows r j lr lj =
       let column : j < n = omega arith in
@@ -48,13 +52,22 @@ module _ (m w l n : ℕ) (xs ys ts zs : List ℕ) (side : n ≡ 2 ^ l) (size : l
       (λ k lk. let row : reversed l k < n = omega (arith, reversed-lt l k lk) in
       c-eq (transposed ys ts turned size (reversed l k) j row column) ⨟ columns j (reversed l k) lj row)
 
+-- in either direction
+pub tile-transformed : (direction : Direction) (b l n : ℕ) (xs ys ts zs : List ℕ) → n ≡ 2 ^ l → length ys ≡ n * n → Permuted (across n) ys ts
+    → Transformed direction b 1 l n xs ys → Transformed direction b 1 l n ts zs → TileTransformed direction b l n xs zs
+tile-transformed Forward b l n xs ys ts zs side size turned columns rows = tile-forward (2 ^ b + 1) 2 l n xs ys ts zs side size turned columns rows
+tile-transformed Inverse b l n xs ys ts zs side size turned columns rows =
+    let one = pow-one (2 ^ (b - 1) + 1) in
+    tile-inverse (2 ^ b + 1) (2 ^ (b - 1) + 1) l n xs ys ts zs side size turned (rw one at columns) (rw one at rows)
+
 -- the bound across a transposition
 pub transposed-most : (n c : ℕ) (ys ts : List ℕ) → length ys ≡ n * n → length ts ≡ length ys → Permuted (across n) ys ts → AtMost c ys → AtMost c ts
 transposed-most n c ys ts size same turned most = permuted-most (across n) ys ts c size (same ∙ size) (across-lt n) turned most
 
--- all rows are filled
-pub all-filled : (n : ℕ) (xs : List ℕ) → 0 < n → length xs ≡ n * n → Filled n n xs
-all-filled n xs some size = record { some = some; empty = λ i lo hi. absurd (omega arith) }
+-- no row is left out
+pub none-pruned : (direction : Direction) (n : ℕ) (xs : List ℕ) → 0 < n → length xs ≡ n * n → Pruned direction n n n xs
+none-pruned Forward n xs some size = record { some = some; empty = λ i lo hi. absurd (omega arith) }
+none-pruned Inverse n xs some size = omega arith
 
 -- the numbers of the two transforms
 pub record Transforms (s n l b c : ℕ) : Type 0 where

@@ -1,13 +1,15 @@
 -- What the contracts of the transforms of a tile say: n rows of n words, columns first, then rows.
 use mathlib.Core.Path.{_≡_}
 use mathlib.Core.List.{List}
-use Prim.Native.Nat.{ℕ, _+_, _*_, _/_, _%_, _^_, _<_, _≤_}
+use Prim.Native.Nat.{ℕ, _+_, _-_, _*_, _/_, _%_, _^_, _<_, _≤_}
 use lib.ListN.{getD}
 use Rattle.algebra.specs.Congruence.{Cong}
 use Rattle.fermat.specs.Field.{modulus, points}
 use Rattle.fermat.specs.Transform.{powerSum2}
 use Rattle.fermat.specs.Order.{reversed}
 use Rattle.fermat.specs.Halving.{word}
+use Rattle.fermat.specs.declared.passes.Direction.{Direction}
+use Rattle.fermat.specs.declared.passes.Direction.the-variants.{Forward, Inverse}
 
 -- the words of ys from `at` on hold the transform of x at the root w, modulo m. The entry of row frequency k and column frequency i
 -- stands at row i and column k, both in bit-reversed order: rows and columns have changed places, and are not put back.
@@ -24,6 +26,11 @@ abbrev pub TileInverse : (m v l n : ℕ) → List ℕ → List ℕ → Type 0
 TileInverse m v l n xs ys =
     (r j : ℕ) → r < 2 ^ l → j < 2 ^ l
     → Cong m (word n r j ys) (powerSum2 (2 ^ l) v (λ k i. word n (reversed l i) (reversed l k) xs) r j)
+
+-- either direction, at the root 2 or its inverse modulo 2 ^ b + 1
+abbrev pub TileTransformed : Direction → (b l n : ℕ) → List ℕ → List ℕ → Type 0
+TileTransformed Forward b l n xs ys = TileForward (2 ^ b + 1) 2 l n (λ r j. word n r j xs) 0 ys
+TileTransformed Inverse b l n xs ys = TileInverse (2 ^ b + 1) (2 ^ (b - 1) + 1) l n xs ys
 
 -- xs holds the transform of a tile z; then ys holds the words of z as residues, with half of 2 ^ (2 ^ t) added
 abbrev pub Recovered : ℕ → List ℕ → List ℕ → Type 0

@@ -81,7 +81,7 @@ fn pass(
 }
 
 // All passes of a direction. The bound doubles with each.
-fn transform_lanes(
+pub(crate) fn transform_lanes(
     words: &mut [u64],
     direction: Direction,
     n: usize,
