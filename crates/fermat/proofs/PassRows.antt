@@ -1,5 +1,5 @@
 -- A pass, lane by lane: what it makes of every row, the rows of zeros that it leaves out included, and the bound on its words. It serves every step.
-use mathlib.Core.Path.{_≡_, ap, _∙_, subst}
+use mathlib.Core.Path.{_≡_, _∙_, subst}
 use mathlib.Core.List.{List}
 use Prim.Native.Nat.{ℕ, _+_, _-_, _*_, _/_, _%_, _^_, _<_, _≤_}
 use native.Mathlib.Nat.{mul-le-mul-right, zero-mul, mod-lt, div-add-mod', div-lt-iff-lt-mul}

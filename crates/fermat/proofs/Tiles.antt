@@ -1,5 +1,5 @@
 -- The two transforms of a tile, of its columns and of its rows: what they make together, the sizes of each, and the bound across a transposition.
-use mathlib.Core.Path.{_≡_, refl, sym, ap, _∙_}
+use mathlib.Core.Path.{_≡_, refl, ap, _∙_}
 use mathlib.Core.List.{List}
 use Prim.Native.Nat.{ℕ, _+_, _-_, _*_, _%_, _^_, _<_, _≤_}
 use native.Mathlib.Nat.{zero-add, one-mul, mul-one, mod-eq-of-lt, mul-le-mul-left}

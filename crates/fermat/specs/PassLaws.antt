@@ -7,7 +7,7 @@ use Prim.Native.Nat.{ℕ, zero, suc, _+_, _-_, _*_, _/_, _%_, _^_, _<_}
 use native.Mathlib.Nat.{two-pow-succ, zero-mul, pow-zero, mul-comm}
 use native.Mathlib.Decide.{decLt}
 use native.Mathlib.Omega.{arith}
-use lib.Count.{trailingZeros, under}
+use lib.Count.{trailingZeros}
 use Rattle.algebra.specs.SumLaws.{sum-none, sum-last}
 use Rattle.algebra.specs.PowerLaws.{pow-mul, pow-one}
 use Rattle.algebra.specs.Congruence.{Cong}
