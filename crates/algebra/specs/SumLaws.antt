@@ -193,3 +193,8 @@ sum-mul-right n c f = sum-map naturals naturals (λ x. x * c) (zero-mul c) (λ x
 pub sum-const : (n c : ℕ) → sum n (λ i. c) ≡ n * c
 sum-const zero c = sum-none (λ i. c) ∙ sym (zero-mul c)
 sum-const (suc n) c = sum-last n (λ i. c) ∙ omega (arith, sum-const n c)
+
+-- smaller summands make a smaller sum
+pub sum-le : (n : ℕ) (f g : ℕ → ℕ) → ((i : ℕ) → i < n → f i ≤ g i) → sum n f ≤ sum n g
+sum-le zero f g h = omega (arith, sum-none f)
+sum-le (suc n) f g h = omega (arith, sum-last n f, sum-last n g, sum-le n f g (λ i l. h i (omega arith)), h n (omega arith))

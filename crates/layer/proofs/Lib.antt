@@ -1,3 +1,5 @@
 mod Tests
 mod Peaks
-mod Planes
+mod Apart
+mod GroupSums
+mod KernelPlanes

@@ -7,6 +7,7 @@ use lib.Dec.{T, eqb}
 use lib.IntN.{ℤ, pos, negℤ, natAbs, _-ℤ_}
 use lib.ListN.{getD, set, replicate}
 use Rattle.algebra.specs.Sum.{sum, sumZ}
+use Rattle.algebra.specs.Greatest.{greatest}
 use Rattle.algebra.specs.Places.{table}
 use Rattle.fermat.specs.Transform.{powerSum, transformAt}
 use Rattle.fermat.specs.Rules.{inside}
@@ -14,7 +15,7 @@ use Rattle.fermat.specs.Answer.{transformCode, row, answered, transformed}
 use Rattle.layer.specs.declared.shape.Layer.{Layer}
 use Rattle.layer.specs.Shape.{outputCount, convSize, tconvSize, fullHeight, fullWidth, scratchWords, tilesAcross, tileTotal}
 use Rattle.layer.specs.Direct.{cell, conv, tconv, fullAt, directAt, productSum}
-use Rattle.layer.specs.Load.{load, loadsFit, withinPeak}
+use Rattle.layer.specs.Load.{sizeTotal, groupTotal, greatestGroup, load, loadsFit, withinPeak}
 use Rattle.layer.specs.Checks.{cropFits, planCode, runCode}
 
 -- ---- claims
@@ -86,16 +87,16 @@ whole kind field height width side stride padding peak = record {
     full : ℕ → ℕ
     full size = cond (eqb kind 0) (convSize size side stride padding) (tconvSize size side stride padding)
 
-abbrev CONV : (field height width side stride padding peak : ℕ) → Layer
+abbrev pub CONV : (field height width side stride padding peak : ℕ) → Layer
 CONV = whole 0
 
-abbrev TCONV : (field height width side stride padding peak : ℕ) → Layer
+abbrev pub TCONV : (field height width side stride padding peak : ℕ) → Layer
 TCONV = whole 1
 
-abbrev minus : ℕ → ℤ
+abbrev pub minus : ℕ → ℤ
 minus n = negℤ (pos n)
 
-abbrev positive : List ℕ → List ℤ
+abbrev pub positive : List ℕ → List ℤ
 positive [] = []
 positive (n ∷ ns) = pos n ∷ positive ns
 
@@ -211,12 +212,12 @@ layers =
 -- every claim of the table of starred cases holds
 pub charts-hold : T (allHold charts)
 unfolding allHold charts holds table convSize tconvSize fullAt conv tconv directAt productSum sum sumZ
-    planCode runCode inside cropFits withinPeak loadsFit load tileTotal tilesAcross
+    planCode runCode inside cropFits withinPeak loadsFit load sizeTotal groupTotal greatestGroup greatest tileTotal tilesAcross
     answered transformCode row transformAt powerSum
 charts-hold = tt
 
 -- and every claim of our own
 layers-hold : T (allHold layers)
 unfolding allHold layers holds table convSize tconvSize fullAt conv tconv directAt sum sumZ
-    planCode runCode inside cropFits withinPeak loadsFit load tileTotal tilesAcross
+    planCode runCode inside cropFits withinPeak loadsFit load sizeTotal groupTotal greatestGroup greatest tileTotal tilesAcross
 layers-hold = tt

@@ -40,16 +40,18 @@ outputRules l =
     ∷ rule 9 (cropFits (l .left) (l .columns) (fullWidth l))
     ∷ []
 
-abbrev pub callRules : Layer → (map kernel : List ℤ) → (output scratch : ℕ) → List Rule
-callRules l map kernel output scratch =
+abbrev pub lentRules : Layer → (map kernel : List ℤ) → (output scratch : ℕ) → List Rule
+lentRules l map kernel output scratch =
     rule 10 (eqb (length map) (mapCount l))
     ∷ rule 11 (eqb (length kernel) (kernelCount l))
     ∷ rule 12 (eqb output (outputCount l))
     ∷ rule 13 (leb (scratchWords l) scratch)
     ∷ rule 14 (inside 1 32767 (l .peak))
     ∷ rule 15 (withinPeak (l .peak) map)
-    ∷ rule 16 (loadsFit l kernel)
     ∷ []
+
+abbrev pub callRules : Layer → (map kernel : List ℤ) → (output scratch : ℕ) → List Rule
+callRules l map kernel output scratch = lentRules l map kernel output scratch ++ rule 16 (loadsFit l kernel) ∷ []
 
 abbrev pub jobRules : Layer → ℕ → List Rule
 jobRules l next = rule 17 (leb next (tileTotal l)) ∷ []

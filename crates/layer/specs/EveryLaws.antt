@@ -1,5 +1,5 @@
--- Laws of `every`, a test of all numbers below n: one number more, and what it says of one of them.
-use mathlib.Core.Path.{_≡_, sym, ap, _∙_}
+-- Laws of `every`, a test of all numbers below n: one number more, what it says of one of them, and that it holds where all pass.
+use mathlib.Core.Path.{_≡_, refl, sym, ap, _∙_}
 use mathlib.Core.Bool.{Bool, true, false, and-true, and-false}
 use Prim.Native.Nat.{ℕ, zero, suc, _+_, _<_}
 use native.Mathlib.Decide.{ℕ-discrete}
@@ -26,3 +26,7 @@ every-at (suc n) test e i l = go (ℕ-discrete i n) (every-at n test (both .0) i
     go : Dec (i ≡ n) → (i < n → test i ≡ true) → test i ≡ true
     go (yes same) before = ap test same ∙ both .1
     go (no other) before = before (omega arith)
+
+pub every-from : (n : ℕ) (test : ℕ → Bool) → ((i : ℕ) → i < n → test i ≡ true) → every n test ≡ true
+every-from zero test h = refl
+every-from (suc n) test h = rw (every-from n test (λ i l. h i (omega arith)), h n (omega arith))

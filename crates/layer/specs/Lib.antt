@@ -5,6 +5,7 @@ pub mod Direct
 pub mod Load
 pub mod Weights
 pub mod Checks
+pub mod FormerLoad
 -- laws
 pub mod ShapeLaws
 pub mod FullLaws
@@ -17,5 +18,8 @@ pub mod TripleSums
 pub mod ProductLaws
 pub mod Weighed
 pub mod EveryLaws
+pub mod GroupLaws
 pub mod LoadLaws
+pub mod FormerLoadLaws
 pub mod Charts
+pub mod LoadCases

@@ -6,7 +6,7 @@ use fermat::field;
 use fermat::product::accumulate;
 use fermat::spectrum::corner_spectrum;
 use fermat::spectrum::tile_spectrum;
-use layer::load::planes_to;
+use layer::planes::planes_to;
 use layer::shape::Layer;
 ghost use mathlib.Core.Path.{_≡_};
 ghost use mathlib.Core.Bool.{true};

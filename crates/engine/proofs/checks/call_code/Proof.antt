@@ -104,6 +104,8 @@ loads-fit-requires c κs =
       inputs-most = s .pre .shape .inputs-high;
       outputs-most = s .pre .shape .outputs-high;
       side-most = s .pre .shape .side-high;
+      stride-least = s .pre .shape .stride-low;
+      stride-most = s .pre .shape .stride-high;
       peak-most = peak-high (c .before .before);
       weights = rw (passed .before .kernel-count .ensures) at (passed .if2 .left);
     }

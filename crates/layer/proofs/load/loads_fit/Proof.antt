@@ -1,12 +1,12 @@
 -- `loads_fit` holds channel after channel against the limit: `fit` says it of the channels before m. It rests on the laws of `every`.
-use mathlib.Core.Path.{_≡_, refl, _∙_}
+use mathlib.Core.Path.{_≡_, refl, sym, ap, _∙_}
 use mathlib.Core.Bool.{Bool}
 use mathlib.Core.List.{List}
 use mathlib.Core.Logic.{⊎-elim}
 use Prim.Native.Nat.{ℕ, _+_, _-_, _≤_}
 use native.Mathlib.Omega.{arith}
 use borrow.Author.Needs.{needs}
-use borrow.Author.Tests.{le-leb, lt-leb}
+use borrow.Author.Tests.{not-true, not-false}
 use lib.Dec.{leb}
 use lib.IntN.{ℤ}
 use Rattle.layer.specs.declared.shape.Layer.{Layer}
@@ -31,8 +31,8 @@ load-limit-requires c κs = search needs
 loop-holds : tie.Need-loop-holds Inv-loop μ-loop
 loop-holds c = (omega arith, refl)
 
-channel-load-requires : tie.Need-channel-load-requires Inv-loop μ-loop
-channel-load-requires c κs = search needs
+channel-fits-requires : tie.Need-channel-fits-requires Inv-loop μ-loop
+channel-fits-requires c κs = search needs
 
 add-m : tie.Need-add-m Inv-loop μ-loop
 add-m c = search needs
@@ -47,11 +47,11 @@ fit-next : (c : tie.Joined2 Inv-loop μ-loop)
 fit-next c =
     let at = c .before .before .before .before in
     let test = within (at .before .before .args .layer) (at .before .before .args .kernel .now) in
-    let l = c .before .channel-load .ensures in
-    let e = at .before .load-limit .ensures in
+    let is : c .before .channel-fits .result ≡ test (at .loop .m) =
+    c .before .channel-fits .ensures ∙ ap (leb _) (at .before .load-limit .ensures) in
     ⊎-elim
-    (λ w. w .1 ∙ every-fails test (at .loop .m) (lt-leb _ _ (rw (l, e) at (w .0 .taken))))
-    (λ w. w .1 ∙ at .loop .inv .1 ∙ every-holds test (at .loop .m) (le-leb _ _ (rw (l, e) at (w .0 .left))))
+    (λ w. w .1 ∙ every-fails test (at .loop .m) (sym is ∙ not-true _ (w .0 .taken)))
+    (λ w. w .1 ∙ at .loop .inv .1 ∙ every-holds test (at .loop .m) (sym is ∙ not-false _ (w .0 .left)))
     (c .if2 .came)
 
 loop-again : tie.Need-loop-again Inv-loop μ-loop
@@ -72,7 +72,7 @@ loads-fit-spec =
     μ-loop
     load-limit-requires
     loop-holds
-    channel-load-requires
+    channel-fits-requires
     add-m
     loop-less
     loop-again

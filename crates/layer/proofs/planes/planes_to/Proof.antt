@@ -2,8 +2,8 @@
 use native.Mathlib.Nat.{mul-le-mul}
 use native.Mathlib.Omega.{arith}
 use borrow.Author.Tests.{eq-eqb, ne-eqb}
-use Rattle.layer.proofs.load.planes_to.Statement.{statement}
-use Rattle.layer.proofs.load.planes_to.Tie as tie
+use Rattle.layer.proofs.planes.planes_to.Statement.{statement}
+use Rattle.layer.proofs.planes.planes_to.Tie as tie
 
 mul-t5 : tie.Need-mul-t5
 mul-t5 c = omega (arith, mul-le-mul (c .before .before .before .pre .0) (c .before .before .before .pre .1))

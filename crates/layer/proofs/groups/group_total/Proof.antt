@@ -1,26 +1,39 @@
--- `channel_load` adds plane after plane: the sum so far is that of the map channels before c. It rests on the laws of planes.
+-- `group_total` adds plane after plane: the sum so far is that of the map channels before c. It rests on the laws of planes.
 use mathlib.Core.Path.{_≡_, sym, ap, _∙_}
+use mathlib.Core.List.{List}
 use Prim.Native.Nat.{ℕ, _+_, _*_, _-_, _≤_, _<_}
 use native.Mathlib.Nat.{mul-le-mul}
 use native.Mathlib.Numerals.{add-one}
 use native.Mathlib.Omega.{arith}
 use borrow.Author.Needs.{needs}
+use lib.IntN.{ℤ, natAbs}
 use lib.ListN.{length}
 use Rattle.algebra.specs.Sum.{sum}
 use Rattle.algebra.specs.SumLaws.{sum-none, sum-last}
 use Rattle.algebra.specs.PlacesLaws.{part-ends}
-use Rattle.layer.specs.Load.{planeOf, load}
+use Rattle.layer.specs.declared.groups.Group.{Group}
+use Rattle.layer.specs.declared.shape.Layer.{Layer}
+use Rattle.layer.specs.Direct.{cell}
+use Rattle.layer.specs.Load.{planeOf, groupTotal}
 use Rattle.layer.specs.LoadLaws.{plane-below}
-use Rattle.layer.proofs.Planes.{planeSize, plane-size, part-length}
-use Rattle.layer.proofs.load.channel_load.Statement.{statement}
-use Rattle.layer.proofs.load.channel_load.Tie as tie
+use Rattle.layer.proofs.GroupSums.{groupOf}
+use Rattle.layer.proofs.KernelPlanes.{plane-group, part-length}
+use Rattle.layer.proofs.groups.group_total.Statement.{statement}
+use Rattle.layer.proofs.groups.group_total.Tie as tie
+
+-- the sum over the group in plane p, and in the plane of map channel c
+abbrev groupIn : Layer → List ℤ → Group → (p : ℕ) → ℕ
+groupIn l kernel g p = groupOf (l .side) (g .step) (g .row) (g .column) (λ a b. natAbs (cell (l .side) (l .side) kernel p a b))
+
+abbrev planeTotal : Layer → List ℤ → (m : ℕ) → Group → (c : ℕ) → ℕ
+planeTotal l kernel m g c = groupIn l kernel g (planeOf l m c)
 
 abbrev Inv-loop : tie.InvT-loop
-Inv-loop layer kernel m area planes total₀ c₀ total c =
-    (c ≤ layer .inputs) × (total ≡ sum c (λ i. planeSize (layer .side) kernel (planeOf layer m i))) × (total ≤ 121 * 32768 * c)
+Inv-loop layer kernel m group area planes total₀ c₀ total c =
+    (c ≤ layer .inputs) × (total ≡ sum c (λ i. planeTotal layer kernel m group i)) × (total ≤ 121 * 32768 * c)
 
 abbrev μ-loop : tie.MeasureT-loop
-μ-loop layer kernel m area planes total₀ c₀ total c = layer .inputs - c
+μ-loop layer kernel m group area planes total₀ c₀ total c = layer .inputs - c
 
 area-most : (c : tie.Start Inv-loop μ-loop) → c .args .layer .side * c .args .layer .side ≤ 121
 area-most c = omega (arith, mul-le-mul (c .pre .0 .side-most) (c .pre .0 .side-most))
@@ -71,20 +84,20 @@ mul-from-2 c = omega (arith, run-ends (c .before .before))
 add-to : tie.Need-add-to Inv-loop μ-loop
 add-to c = omega (arith, run-ends (c .before .before))
 
-mul-run : tie.Need-mul-run Inv-loop μ-loop
-mul-run c = omega (arith, run-ends (c .before .before))
+mul-plane : tie.Need-mul-plane Inv-loop μ-loop
+mul-plane c = omega (arith, run-ends (c .before .before))
 
-sub-run : tie.Need-sub-run Inv-loop μ-loop
-sub-run c = search needs
+sub-plane : tie.Need-sub-plane Inv-loop μ-loop
+sub-plane c = search needs
 
-part-run-start : tie.Need-part-run-start Inv-loop μ-loop
-part-run-start c = search needs
+part-plane-start : tie.Need-part-plane-start Inv-loop μ-loop
+part-plane-start c = search needs
 
-part-run-end : tie.Need-part-run-end Inv-loop μ-loop
-part-run-end c = omega (arith, run-ends (c .before .before))
+part-plane-end : tie.Need-part-plane-end Inv-loop μ-loop
+part-plane-end c = omega (arith, run-ends (c .before .before))
 
-size-sum-requires : tie.Need-size-sum-requires Inv-loop μ-loop
-size-sum-requires c κs =
+plane-sum-requires : tie.Need-plane-sum-requires Inv-loop μ-loop
+plane-sum-requires c κs =
     let t = c .before .before .before in
     omega (arith, part-length (start t .args .kernel .now) (plane t * area t) (area t) (run-ends t), area-most (start t))
 
@@ -97,37 +110,31 @@ add-c c = search needs
 loop-less : tie.Need-loop-less Inv-loop μ-loop
 loop-less c = search needs
 
--- the run's sum is that of the plane
-summed : (c : tie.After-size-sum Inv-loop μ-loop)
+-- the sum over the run is that of the plane
+summed : (c : tie.After-plane-sum Inv-loop μ-loop)
     → let t : tie.Then1 Inv-loop μ-loop = c .before .before .before .before in
     let a = start t .args in
-    c .size-sum .result ≡ planeSize (a .layer .side) (a .kernel .now) (planeOf (a .layer) (a .m) (t .before .before .loop .c))
+    c .plane-sum .result ≡ planeTotal (a .layer) (a .kernel .now) (a .m) (a .group) (t .before .before .loop .c)
 summed c =
     let t : tie.Then1 Inv-loop μ-loop = c .before .before .before .before in
     let a = start t .args in
-    c .size-sum .ensures .0 ∙ plane-size (a .layer .side) (a .kernel .now) (plane t) (run-ends t)
-    ∙ ap (planeSize (a .layer .side) (a .kernel .now)) (plane-is t)
+    c .plane-sum .ensures .0 ∙ plane-group (a .layer .side) (a .kernel .now) (plane t) (a .group) (run-ends t)
+    ∙ ap (λ (p : ℕ). groupIn (a .layer) (a .kernel .now) (a .group) p) (plane-is t)
 
 loop-again : tie.Need-loop-again Inv-loop μ-loop
 loop-again c =
     let at = c .before .before .before .before .before .before in
     (omega arith, rw (at .loop .inv .1, summed c, add-one, sum-last), omega arith)
 
-mul-result : tie.Need-mul-result Inv-loop μ-loop
-mul-result c =
-    let s = c .before .before .before .before .before in
-    let most : c .before .before .loop .total ≤ 121 * 32768 * 64 = omega arith in
-    omega (arith, mul-le-mul (s .pre .0 .peak-most) most)
-
 returns : tie.Need-returns Inv-loop μ-loop
-unfolding load
+unfolding groupTotal
 returns c =
     let at = c .before .before in
     let done : at .loop .c ≡ at .before .before .before .args .layer .inputs = omega arith in
-    rw (at .loop .inv .1, done)
+    (rw (at .loop .inv .1, done), omega arith)
 
-pub channel-load-spec : {M : Type 1} → statement M
-channel-load-spec =
+pub group-total-spec : {M : Type 1} → statement M
+group-total-spec =
     tie.close
     (tie.spec
     Inv-loop
@@ -139,14 +146,13 @@ channel-load-spec =
     add-from
     mul-from-2
     add-to
-    mul-run
-    sub-run
-    part-run-start
-    part-run-end
-    size-sum-requires
+    mul-plane
+    sub-plane
+    part-plane-start
+    part-plane-end
+    plane-sum-requires
     add-total
     add-c
     loop-less
     loop-again
-    mul-result
     returns)

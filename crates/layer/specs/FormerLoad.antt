@@ -1,0 +1,26 @@
+-- The load and the rule 16 as they were before 02, E2: by the sum of all sizes in both kinds. They serve the laws that say what E2 changed.
+use mathlib.Core.Bool.{Bool}
+use mathlib.Core.List.{List, [], _∷_, _++_}
+use Prim.Native.Nat.{ℕ, _*_}
+use lib.Dec.{leb}
+use lib.IntN.{ℤ}
+use Rattle.fermat.specs.Rules.{rule, firstBroken}
+use Rattle.layer.specs.declared.shape.Layer.{Layer}
+use Rattle.layer.specs.Load.{sizeTotal, loadLimit, every}
+use Rattle.layer.specs.Checks.{shapeRules, outputRules, lentRules, jobRules}
+
+-- A times the sum of the sizes of all weights that reach output channel m
+unfoldable pub formerLoad : Layer → List ℤ → (m : ℕ) → ℕ
+formerLoad l kernel m = l .peak * sizeTotal l kernel m
+
+unfoldable pub formerLoadsFit : Layer → List ℤ → Bool
+formerLoadsFit l kernel = every (l .outputs) (λ m. leb (formerLoad l kernel m) (loadLimit (l .field)))
+
+-- what a run and a job answered
+unfoldable pub formerRunCode : Layer → (map kernel : List ℤ) → (output scratch : ℕ) → ℕ
+formerRunCode l map kernel output scratch =
+    firstBroken (shapeRules l ++ outputRules l ++ lentRules l map kernel output scratch ++ rule 16 (formerLoadsFit l kernel) ∷ [])
+
+unfoldable pub formerJobCode : Layer → ℕ → (map kernel : List ℤ) → (output scratch : ℕ) → ℕ
+formerJobCode l next map kernel output scratch =
+    firstBroken (shapeRules l ++ outputRules l ++ lentRules l map kernel output scratch ++ rule 16 (formerLoadsFit l kernel) ∷ jobRules l next)
