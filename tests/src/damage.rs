@@ -1,7 +1,8 @@
 //! Ways to break a rule of a call that every rule accepts.
 
 use crate::call::Call;
-use crate::draw::{any_layer, set_channel, top_up};
+use crate::draw::{any_layer, top_up};
+use crate::groups::{groups, set_group};
 use crate::layer::{Layer, CONV};
 use crate::random::Random;
 use crate::rules::load_limit;
@@ -121,8 +122,10 @@ const LENT: [Entry; 20] = [
         let middle = call.map.len() / 2;
         call.map[middle] = i16::MIN;
     }),
-    (16, "load of the first channel above the limit", |call| overload(call, 0)),
-    (16, "load of the last channel above the limit", |call| overload(call, call.layer.outputs - 1)),
+    (16, "load of the first channel above the limit", |call| overload(call, 0, &groups(&call.layer)[0])),
+    (16, "load of the last channel above the limit", |call| {
+        overload(call, call.layer.outputs - 1, &last_of_the_greatest(&call.layer))
+    }),
     (17, "index one above the total", |call| call.next = call.layer.tile_total() + 1),
     (17, "index is 2 to the power 32", |call| call.next = 1 << 32),
     (17, "index is 2 to the power 63", |call| call.next = 1 << 63),
@@ -134,21 +137,26 @@ fn beyond(peak: usize) -> i16 {
     i16::try_from(peak + 1).unwrap_or(i16::MIN)
 }
 
-/// Gives a channel the least load above the limit. The peak is raised where 16-bit weights would not reach that.
-fn overload(call: &mut Call, channel: usize) {
-    let count = call.layer.inputs * call.layer.side * call.layer.side;
+/// Gives a group of a channel the least load above the limit. The peak is raised where 16-bit weights would not reach
+/// that.
+fn overload(call: &mut Call, channel: usize, group: &[usize]) {
     let limit = load_limit(call.layer.field) as usize;
-    if count * 32_768 * call.layer.peak <= limit {
+    if group.len() * 32_768 * call.layer.peak <= limit {
         call.layer.peak = 32_767;
     }
-    let mut weights = vec![0; count];
+    let mut weights = vec![0; group.len()];
     top_up(&mut weights, limit / call.layer.peak + 1);
-    set_channel(&call.layer, &mut call.kernel, channel, &weights);
+    set_group(&call.layer, &mut call.kernel, channel, group, &weights);
+}
+
+/// The last of the groups that have the most weights. The first group is one of them too.
+fn last_of_the_greatest(layer: &Layer) -> Vec<usize> {
+    groups(layer).into_iter().max_by_key(Vec::len).unwrap()
 }
 
 /// Whether every rule can be broken: in F_5 no load of two weights is above the limit.
 pub fn breakable(layer: &Layer) -> bool {
-    layer.field == 4 || layer.inputs * layer.side * layer.side >= 3
+    layer.field == 4 || groups(layer)[0].len() >= 3
 }
 
 /// A drawn layer on which every rule can be broken.

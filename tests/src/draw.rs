@@ -1,6 +1,7 @@
 //! Layers, maps, kernels and buffers, drawn so that every rule accepts them.
 
 use crate::call::{Buffer, Buffers, Call};
+use crate::groups::{groups, set_group};
 use crate::layer::Layer;
 use crate::random::Random;
 use crate::rules::load_limit;
@@ -81,18 +82,20 @@ pub fn map(random: &mut Random, layer: &Layer) -> Vec<i16> {
     (0..layer.map_length()).map(|_| value()).collect()
 }
 
-/// A kernel of which every output channel's load is within the limit, mostly as near to it as whole weights come.
+/// A kernel of which every output channel's load is within the limit, most groups as near to it as whole weights come.
 pub fn kernel(random: &mut Random, layer: &Layer) -> Vec<i16> {
     let most = load_limit(layer.field) as usize / layer.peak;
+    let groups = groups(layer);
     let mut kernel = vec![0; layer.kernel_length() as usize];
     for channel in 0..layer.outputs {
-        let total = match random.below(4) {
-            0 => random.between(0, most),
-            1 => random.between(0, most.min(100)),
-            _ => most,
-        };
-        let weights = weights(random, layer.inputs * layer.side * layer.side, total);
-        set_channel(layer, &mut kernel, channel, &weights);
+        for group in &groups {
+            let total = match random.below(4) {
+                0 => random.between(0, most),
+                1 => random.between(0, most.min(100)),
+                _ => most,
+            };
+            set_group(layer, &mut kernel, channel, group, &weights(random, group.len(), total));
+        }
     }
     kernel
 }

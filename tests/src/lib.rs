@@ -11,6 +11,7 @@ pub mod direct;
 pub mod draw;
 pub mod engine;
 pub mod example;
+pub mod groups;
 pub mod join;
 pub mod kinds;
 pub mod layer;

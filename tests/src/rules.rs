@@ -1,6 +1,7 @@
 //! The number that a call returns, from the request's table: the rules in its order, sums taken in whole numbers.
 
 use crate::call::Call;
+use crate::groups::{channel_weights, groups};
 use crate::layer::{Layer, CONV};
 use crate::transform::{modulus, points};
 
@@ -50,11 +51,22 @@ fn has_crop(layer: &Layer) -> bool {
     kept(layer.top, layer.rows, layer.full_rows()) && kept(layer.left, layer.columns, layer.full_columns())
 }
 
-/// The peak times the sum of the sizes of all weights that reach an output channel.
+/// The peak times the greatest sum of sizes over the groups of weights that reach an output channel.
 pub fn load(call: &Call, channel: usize) -> u128 {
-    let square = call.layer.side * call.layer.side;
-    let planes = (0..call.layer.inputs).map(|input| &call.kernel[call.layer.plane(channel, input)..][..square]);
-    call.layer.peak as u128 * planes.flatten().map(|&weight| size(weight)).sum::<u128>()
+    let weights = channel_weights(&call.layer, &call.kernel, channel);
+    let sum = |group: Vec<usize>| group.into_iter().map(|place| size(weights[place])).sum::<u128>();
+    call.layer.peak as u128 * groups(&call.layer).into_iter().map(sum).max().unwrap()
+}
+
+/// The load before the request's E2: the peak times the sum of the sizes of all weights that reach an output channel.
+pub fn former_load(call: &Call, channel: usize) -> u128 {
+    let weights = channel_weights(&call.layer, &call.kernel, channel);
+    call.layer.peak as u128 * weights.into_iter().map(size).sum::<u128>()
+}
+
+/// Whether some load was above the limit before E2.
+pub fn formerly_refused(call: &Call) -> bool {
+    (0..call.layer.outputs).any(|channel| former_load(call, channel) > load_limit(call.layer.field))
 }
 
 pub fn load_limit(field: usize) -> u128 {

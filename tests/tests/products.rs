@@ -6,7 +6,7 @@ use wemsteky_tests::damage::breakable;
 use wemsteky_tests::layer::{Layer, CONV, TCONV};
 use wemsteky_tests::list::List;
 use wemsteky_tests::random::{seed, Random};
-use wemsteky_tests::rules::{load, load_limit};
+use wemsteky_tests::rules::{formerly_refused, load, load_limit};
 use wemsteky_tests::{checked, draw};
 
 /// Pairs in each test.
@@ -94,21 +94,23 @@ fn product_sum(outputs: &[i32], map: &[i16]) -> i128 {
     outputs.iter().zip(map).map(|(&output, &value)| i128::from(output) * i128::from(value)).sum()
 }
 
-/// The sum on both sides.
-fn agreed_sum(random: &mut Random, same_field: bool) -> i128 {
+/// The sum on both sides, and whether the transposed call is one that only its groups' loads let in.
+fn agreed_sum(random: &mut Random, same_field: bool) -> (i128, bool) {
     let (conv, tconv) = breakable_pair(random, same_field);
     let kernel = shared_kernel(random, &conv, &tconv);
     let (conv, tconv) = (draw_call(random, conv, &kernel), draw_call(random, tconv, &kernel));
     let (u, v) = (outputs(random, &conv), outputs(random, &tconv));
     let (left, right) = (product_sum(&u, &tconv.map), product_sum(&v, &conv.map));
     assert_eq!(left, right, "{:?} and {:?}", conv.layer, tconv.layer);
-    left
+    (left, formerly_refused(&tconv))
 }
 
 fn sums_agree(test: &'static str, same_field: bool) {
-    let differs_from_0 = |&trial: &usize| agreed_sum(&mut Random::new(test, trial), same_field) != 0;
-    let count = (0..PAIRS).filter(differs_from_0).count();
+    let sums: Vec<_> = (0..PAIRS).map(|trial| agreed_sum(&mut Random::new(test, trial), same_field)).collect();
+    let count = sums.iter().filter(|(sum, _)| *sum != 0).count();
+    let by_groups = sums.iter().filter(|(_, by_groups)| *by_groups).count();
     assert!(count > PAIRS / 2, "{count} sums are not 0, seed {}", seed());
+    assert!(by_groups > PAIRS / 10, "{by_groups} kernels are let in by their groups, seed {}", seed());
 }
 
 #[test]

@@ -3,6 +3,7 @@
 
 use wemsteky_tests::call::{Buffer, Buffers, Call};
 use wemsteky_tests::damage::{breakable_layer, damages};
+use wemsteky_tests::groups::{groups, set_group};
 use wemsteky_tests::layer::{Layer, CONV, TCONV};
 use wemsteky_tests::random::Random;
 use wemsteky_tests::rules::{load, load_limit, transform_number};
@@ -122,20 +123,22 @@ const PEAKS: [(usize, usize); 14] = [
     (5, 16_384),
 ];
 
-/// Gives a channel a load one above the limit, spread over its map channels; then makes one of its weights smaller by
-/// 1.
+/// Gives a group of a channel a load one above the limit, spread over its map channels; then makes one of its weights
+/// smaller by 1.
 fn hold_load(random: &mut Random, layer: Layer) {
     let mut call = draw::call(random, layer);
     let mut buffers = draw::buffers(random, &call);
     let (channel, above) = (random.below(layer.outputs), load_limit(layer.field) + 1);
-    let count = layer.inputs * layer.side * layer.side;
-    let mut weights = draw::weights(random, count, above as usize / layer.peak);
-    draw::set_channel(&layer, &mut call.kernel, channel, &weights);
+    let total = above as usize / layer.peak;
+    let groups: Vec<_> = groups(&layer).into_iter().filter(|group| group.len() * 32_767 >= total).collect();
+    let group = &groups[random.below(groups.len())];
+    let mut weights = draw::weights(random, group.len(), total);
+    set_group(&layer, &mut call.kernel, channel, group, &weights);
     assert_eq!(load(&call, channel), above, "{layer:?}");
     assert_eq!(number(&call, &mut buffers), 16, "{layer:?}");
     let weight = weights.iter_mut().find(|weight| **weight != 0).unwrap();
     *weight -= weight.signum();
-    draw::set_channel(&layer, &mut call.kernel, channel, &weights);
+    set_group(&layer, &mut call.kernel, channel, group, &weights);
     assert_eq!(number(&call, &mut buffers), 0, "{layer:?}");
 }
 

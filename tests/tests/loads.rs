@@ -1,0 +1,147 @@
+//! Transposed kernels judged by groups: each group at its limit for every stride from 2 on and every side, one more in
+//! any group, and outputs as large as the load.
+
+use wemsteky_tests::call::Call;
+use wemsteky_tests::checked;
+use wemsteky_tests::direct::direct_sums;
+use wemsteky_tests::draw;
+use wemsteky_tests::groups::{channel_weights, groups, set_group};
+use wemsteky_tests::layer::{Layer, TCONV};
+use wemsteky_tests::list::List;
+use wemsteky_tests::random::{seed, Random};
+use wemsteky_tests::rules::{formerly_refused, load, load_limit};
+
+/// Every stride from 2 on, every side and padding.
+fn windows() -> impl Iterator<Item = (usize, usize, usize)> {
+    let sides = (2..=4).flat_map(|stride| (1..=11).map(move |side| (stride, side)));
+    sides.flat_map(|(stride, side)| (0..side).map(move |padding| (stride, side, padding)))
+}
+
+/// A peak, with how much it leaves for the sizes of a group: in F_4 the load is then the limit, in F_5, where none is, the
+/// greatest load below it.
+fn peak(random: &mut Random, field: usize) -> (usize, usize) {
+    let peak = match field {
+        4 => 1 << random.below(15),
+        _ => 32_767,
+    };
+    (peak, load_limit(field) as usize / peak)
+}
+
+/// A call whose every group has as much as the peak leaves, weights and map drawn. Three map channels are enough for
+/// that in every group.
+fn full_call(random: &mut Random, field: usize, (stride, side, padding): (usize, usize, usize)) -> Call {
+    let (peak, total) = peak(random, field);
+    let length = 2 * side.div_ceil(stride) + 2;
+    let outputs = random.between(1, 2);
+    let layer = Layer::of([TCONV, field, 3, outputs, length, length, side, stride, padding, peak, 0, 0, 0, 0]);
+    let mut call = draw::call(random, layer.uncropped());
+    for channel in 0..outputs {
+        for group in groups(&layer) {
+            let weights = draw::weights(random, group.len(), total);
+            set_group(&layer, &mut call.kernel, channel, &group, &weights);
+        }
+        assert_eq!(load(&call, channel), (total * peak) as u128, "{layer:?}");
+    }
+    call
+}
+
+/// Holds a plan, a run and a job call to the number that they must answer with.
+fn answered(random: &mut Random, call: &Call, number: usize) {
+    let mut buffers = draw::buffers(random, call);
+    assert_eq!(checked::plan(&call.layer), 0, "{:?}", call.layer);
+    assert_eq!(checked::run(call, &mut buffers, None).number, number, "{:?}", call.layer);
+    assert_eq!(checked::job(call, &mut buffers, None).number, number, "{:?}", call.layer);
+}
+
+/// Adds 1 to the size of a weight of each group in turn: the peak times one more is above the limit.
+fn one_more_in_each_group(random: &mut Random, call: &Call) {
+    let layer = call.layer;
+    for group in groups(&layer) {
+        let mut above = call.clone();
+        let channel = random.below(layer.outputs);
+        let weights = channel_weights(&layer, &call.kernel, channel);
+        let fewer: Vec<usize> = group.into_iter().filter(|&place| weights[place].unsigned_abs() < 32_767).collect();
+        let place = fewer[random.below(fewer.len())];
+        let more = weights[place] + if weights[place] < 0 { -1 } else { 1 };
+        set_group(&layer, &mut above.kernel, channel, &[place], &[more]);
+        answered(random, &above, 16);
+    }
+}
+
+/// Every group at its limit: accepted, though the sum of all sizes is above it; a whole job in budgets leaves the direct
+/// sums.
+fn at_every_limit(test: &'static str, field: usize) {
+    for (trial, window) in windows().enumerate() {
+        let mut random = Random::new(test, trial);
+        let call = full_call(&mut random, field, window);
+        assert_eq!(formerly_refused(&call), groups(&call.layer).len() > 1, "{:?}", call.layer);
+        answered(&mut random, &call, 0);
+        one_more_in_each_group(&mut random, &call);
+        let sums = direct_sums(&call.layer, &call.map, &call.kernel);
+        let mut list = List::new(&mut random, call);
+        list.finish(&mut random, Some(&sums));
+        let output = list.buffers.output.words().iter().map(|&word| i64::from(word));
+        assert!(output.eq(sums), "{:?}", list.call.layer);
+    }
+}
+
+#[test]
+fn every_group_at_its_limit_in_field_4() {
+    at_every_limit("loads, limits in field 4", 4);
+}
+
+#[test]
+fn every_group_at_its_limit_in_field_5() {
+    at_every_limit("loads, limits in field 5", 5);
+}
+
+/// Sets the map values that an output of a channel meets to the peak, each with its weight's sign, so that the output is
+/// the sum of its group. The output is the one whose row and column, with the padding, are these.
+fn meet(call: &mut Call, channel: usize, row: usize, column: usize) {
+    let layer = call.layer;
+    let weights = channel_weights(&layer, &call.kernel, channel);
+    for (place, weight) in weights.into_iter().enumerate() {
+        let (input, a, b) = (place / (layer.side * layer.side), place / layer.side % layer.side, place % layer.side);
+        if row % layer.stride == a % layer.stride && column % layer.stride == b % layer.stride {
+            let (e, f) = ((row - a) / layer.stride, (column - b) / layer.stride);
+            call.map[(input * layer.height + e) * layer.width + f] = layer.peak as i16 * weight.signum();
+        }
+    }
+}
+
+/// The output of each group that is as large as the load, and its negative.
+fn greatest_outputs(test: &'static str, field: usize) -> Vec<i64> {
+    let mut reached = Vec::new();
+    for (trial, window) in windows().enumerate() {
+        let mut random = Random::new(test, trial);
+        let mut call = full_call(&mut random, field, window);
+        let layer = call.layer;
+        let (channel, first) = (random.below(layer.outputs), layer.side.div_ceil(layer.stride) * layer.stride);
+        for row in first..first + layer.stride.min(layer.side) {
+            let column = random.between(first, first + layer.stride.min(layer.side) - 1);
+            meet(&mut call, channel, row, column);
+            let flips = random.once_in(2);
+            call.map.iter_mut().filter(|_| flips).for_each(|value| *value = -*value);
+            let sums = direct_sums(&layer, &call.map, &call.kernel);
+            checked::run(&call, &mut draw::buffers(&mut random, &call), Some(&sums));
+            let place = (channel * layer.rows + row - layer.padding) * layer.columns + column - layer.padding;
+            assert_eq!(
+                sums[place].unsigned_abs() as u128,
+                load(&call, channel),
+                "row {row}, column {column}, {layer:?}"
+            );
+            reached.push(sums[place]);
+        }
+    }
+    reached
+}
+
+/// Both ends of what a residue reads as, or in F_5 the greatest load of a layer.
+#[test]
+fn outputs_as_large_as_the_load() {
+    let mut reached = greatest_outputs("loads, greatest outputs in field 4", 4);
+    reached.extend(greatest_outputs("loads, greatest outputs in field 5", 5));
+    for end in [32_768, -32_768, 2_147_483_646, -2_147_483_646] {
+        assert!(reached.contains(&end), "no output is {end}, seed {}", seed());
+    }
+}
