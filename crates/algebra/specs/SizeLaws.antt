@@ -1,9 +1,8 @@
 -- Sizes of integers. The size of z is `natAbs z` of `lib.IntN`. Here are the sizes of negations and products, and bounds on the sizes
--- of sums, up to that of a sum of weights times values. It rests on the definitions of the two sums.
+-- of sums. It rests on the definitions of the two sums.
 use mathlib.Core.Path.{_≡_, refl}
 use mathlib.Core.Bool.{Bool, true, false, cond}
 use Prim.Native.Nat.{ℕ, zero, suc, _+_, _*_, _-_, _≤_, _<_}
-use native.Mathlib.Nat.{mul-le-mul-left}
 use native.Mathlib.Omega.{arith}
 use lib.Dec.{ltb}
 use lib.IntN.{ℤ, pos, negsuc, negℤ, natAbs, _+ℤ_, _*ℤ_}
@@ -38,11 +37,3 @@ pub size-sum-le : (n A : ℕ) (f : ℕ → ℤ) (g : ℕ → ℕ) → ((i : ℕ)
 size-sum-le zero A f g h = rw (sumZ-none f) (omega arith)
 size-sum-le (suc n) A f g h = rw (sumZ-last n f, sum-last n g)
     (omega (arith, size-add (sumZ n f) (f n), size-sum-le n A f g (λ i l. h i (omega arith)), h n (omega arith)))
-
-pub size-sum : (n : ℕ) (f : ℕ → ℤ) → natAbs (sumZ n f) ≤ sum n (λ i. natAbs (f i))
-size-sum n f = omega (arith, size-sum-le n 1 f (λ i. natAbs (f i)) (λ i l. omega arith))
-
--- A sum of weights w times values x, where no value's size is more than A.
-pub size-dot : (n A : ℕ) (w x : ℕ → ℤ) → ((i : ℕ) → i < n → natAbs (x i) ≤ A)
-    → natAbs (sumZ n (λ i. w i *ℤ x i)) ≤ A * sum n (λ i. natAbs (w i))
-size-dot n A w x h = size-sum-le n A _ _ (λ i l. omega (arith, size-mul (w i) (x i), mul-le-mul-left (natAbs (w i)) (h i l)))

@@ -51,7 +51,7 @@ fn rows_sum(plane: &[i16], side: usize, group: Group) -> u64
     requires { ⌜ IsGroup group × (side ≤ 11) × (length (now plane) ≡ side * side) ⌝ }
     ensures { λ r. ⌜ (r ≡ groupSum side (now (plane .entry)) group) × (r ≤ 121 * 32768) ⌝ }
 {
-    let step = group.step; // how far its rows do
+    let step = group.step; // how far its rows lie apart
     let mut total: u64 = 0;
     let mut a = group.row;
     while a < side {
@@ -61,7 +61,7 @@ fn rows_sum(plane: &[i16], side: usize, group: Group) -> u64
     total
 }
 
-// The same, by the quicker sum where all weights are of the group.
+// The same; where the group is of all weights, by the quicker sum.
 fn plane_sum(plane: &[i16], side: usize, group: Group) -> u64
     requires { ⌜ IsGroup group × (side ≤ 11) × (length (now plane) ≡ side * side) ⌝ }
     ensures { λ r. ⌜ (r ≡ groupSum side (now (plane .entry)) group) × (r ≤ 121 * 32768) ⌝ }

@@ -18,8 +18,8 @@ const TIME: Duration = Duration::from_millis(1_000);
 /// Tiles of the call whose instructions are counted.
 const COUNTED_TILES: usize = 4;
 
-/// The hidden first argument: a layer's number and a budget follow, and one call is made.
-const ONE_CALL: &str = "one-call";
+/// The hidden first argument: a layer's number, a budget and a count follow, and so many calls are made.
+const CALLS: &str = "calls";
 
 /// A square map, no padding, not cropped.
 fn layer(
@@ -33,7 +33,7 @@ fn layer(
     Layer::of([kind, field, inputs, outputs, length, length, side, stride, 0, 100, 0, 0, 0, 0]).uncropped()
 }
 
-/// One full tile of each side, many channels, strides, then maps of the greatest size.
+/// One full tile of each side, many channels, strides, then maps of the greatest size; last the most weights in groups.
 fn layers() -> Vec<Layer> {
     let mut layers = Vec::new();
     for field in [4, 5] {
@@ -48,6 +48,7 @@ fn layers() -> Vec<Layer> {
             layers.extend([3, 5, 7, 11].map(|side| layer(CONV, field, (inputs, 1), 512, side, 1)));
         }
     }
+    layers.push(layer(TCONV, 4, (64, 64), 3, 11, 4));
     layers
 }
 
@@ -83,17 +84,17 @@ fn shortest<const N: usize>(mut routines: [&mut dyn FnMut(); N]) -> [f64; N] {
     shortest
 }
 
-/// What valgrind says of one call of this program, or nothing where there is no valgrind.
-fn counted(number: usize, budget: usize) -> Option<Output> {
+/// What valgrind says of this program with some calls, or nothing where there is no valgrind.
+fn counted(number: usize, budget: usize, calls: usize) -> Option<Output> {
     let program = std::env::current_exe().expect("the program knows its own file");
     let mut command = Command::new("valgrind");
     command.args(["--tool=callgrind", "--callgrind-out-file=/dev/null"]).arg(program);
-    command.args([ONE_CALL, &number.to_string(), &budget.to_string()]).output().ok()
+    command.args([CALLS, &number.to_string(), &budget.to_string(), &calls.to_string()]).output().ok()
 }
 
 /// The number after the word Collected.
-fn instructions(number: usize, budget: usize) -> Option<f64> {
-    let said = counted(number, budget)?;
+fn instructions(number: usize, budget: usize, calls: usize) -> Option<f64> {
+    let said = counted(number, budget, calls)?;
     let text = String::from_utf8_lossy(&said.stderr);
     let (_, count) = text.split_once("Collected :")?;
     count.split_whitespace().next()?.parse().ok()
@@ -102,11 +103,20 @@ fn instructions(number: usize, budget: usize) -> Option<f64> {
 /// Instructions for a tile: those of a call of some tiles less those of a call of none.
 fn tile_instructions(number: usize, total: usize) -> Option<f64> {
     let tiles = total.min(COUNTED_TILES);
-    Some((instructions(number, tiles)? - instructions(number, 0)?) / tiles as f64)
+    Some((instructions(number, tiles, 1)? - instructions(number, 0, 1)?) / tiles as f64)
+}
+
+/// Instructions of a call of no tile: those of two less those of one.
+fn call_instructions(number: usize) -> Option<f64> {
+    Some(instructions(number, 0, 2)? - instructions(number, 0, 1)?)
+}
+
+fn written(count: Option<f64>) -> String {
+    count.map_or("-".to_string(), |count| format!("{count:.0}"))
 }
 
 /// The table's columns: title and width.
-const COLUMNS: [(&str, usize); 14] = [
+const COLUMNS: [(&str, usize); 15] = [
     ("kind", 5),
     ("field", 5),
     ("C", 2),
@@ -120,10 +130,11 @@ const COLUMNS: [(&str, usize); 14] = [
     ("tiles", 5),
     ("ns by M, C, tile", 16),
     ("no tile µs", 10),
+    ("instructions, no tile", 21),
     ("instructions by tile", 20),
 ];
 
-fn line(words: [String; 14]) -> String {
+fn line(words: [String; 15]) -> String {
     let padded = words.iter().zip(COLUMNS).map(|(word, (_, width))| format!("{word:>width$}"));
     format!("| {} |", padded.collect::<Vec<_>>().join(" | "))
 }
@@ -154,7 +165,8 @@ fn measured(number: usize) -> String {
         total.to_string(),
         format!("{:.0}", run * 1e3 / (layer.inputs * total) as f64),
         format!("{none:.1}"),
-        tile_instructions(number, total).map_or("-".to_string(), |count| format!("{count:.0}")),
+        written(call_instructions(number)),
+        written(tile_instructions(number, total)),
     ])
 }
 
@@ -166,9 +178,10 @@ fn main() {
             println!("{}", line(COLUMNS.map(|(_, width)| "-".repeat(width - 1) + ":")));
             (0..layers().len()).for_each(|number| println!("{}", measured(number)));
         }
-        [first, number, budget] if first == ONE_CALL => {
+        [first, number, budget, calls] if first == CALLS => {
             let (call, mut buffers) = drawn(number.parse().expect("a layer's number"));
-            advance(&call, budget.parse().expect("a budget"), &mut buffers);
+            let budget = budget.parse().expect("a budget");
+            (0..calls.parse().expect("a count")).for_each(|_| advance(&call, budget, &mut buffers));
         }
         _ => eprintln!("benchmark takes no arguments"),
     }
