@@ -1,6 +1,6 @@
 -- A loop over the numbers q, q + S, q + 2S, .. below n: what it has added up so far is `apart` of the numbers before the next one. It rests on the
 -- laws of sums and of remainders.
-use mathlib.Core.Path.{_≡_, refl, sym, ap, _∙_}
+use mathlib.Core.Path.{_≡_, sym, ap, _∙_}
 use mathlib.Core.Bool.{cond}
 use Prim.Native.Nat.{ℕ, _+_, _-_, _%_, _<_, _≤_}
 use native.Mathlib.Nat.{mod-lt, mod-eq-of-lt, mod-add-mod, mod-eq-sub-mod, add-mod-right}

@@ -1,6 +1,7 @@
 -- The kernel by planes: plane p is the run of K² weights from p·K² on, and what the code reads in the run is the weight at the plane's row and
 -- column. It rests on the laws of lists.
 use mathlib.Core.Path.{_≡_, ap, _∙_}
+use mathlib.Core.Bool.{cond}
 use mathlib.Core.List.{List}
 use Prim.Native.Nat.{ℕ, _+_, _*_, _-_, _≤_, _<_}
 use native.Mathlib.Omega.{arith}
@@ -14,7 +15,6 @@ use Rattle.layer.specs.Direct.{cell}
 use Rattle.layer.specs.Load.{inGroup}
 use Rattle.layer.specs.Weights.{groupSum}
 use Rattle.layer.proofs.GroupSums.{groupOf, group-sum-is}
-use mathlib.Core.Bool.{cond}
 
 -- n values from `from` on, as the code lends them
 abbrev pub part : List ℤ → (from n : ℕ) → List ℤ

@@ -70,7 +70,7 @@ cases =
     ∷ judged (TCONV 5 1 1 3 2 0 32767) (positive (32767 ∷ 0 ∷ 32767 ∷ 0 ∷ 0 ∷ 0 ∷ 4 ∷ 0 ∷ 0 ∷ [])) 0 0
     ∷ judged (TCONV 5 1 1 3 2 0 32767) (positive (32767 ∷ 1 ∷ 32767 ∷ 1 ∷ 1 ∷ 1 ∷ 4 ∷ 1 ∷ 0 ∷ [])) 0 16
     ∷ judged (TCONV 5 1 1 3 2 0 32767) (positive (32767 ∷ 1 ∷ 32767 ∷ 1 ∷ 1 ∷ 1 ∷ 4 ∷ 1 ∷ 1 ∷ [])) 16 16
-    -- CONV and stride 1 have no groups
+    -- CONV and stride 1 take all weights together
     ∷ judged (CONV 4 4 4 4 2 0 1) full 16 16
     ∷ judged (TCONV 4 2 2 4 1 0 1) full 16 16
     ∷ judged (TCONV 4 2 2 4 1 0 1) (replicate 16 (minus 2048)) 0 0

@@ -1,7 +1,7 @@
 -- `channel_fits`: the sum of all sizes decides where it is within the limit, and in CONV; else the greatest group does. It rests on the laws of the
 -- load.
 use mathlib.Core.Path.{_≡_, sym, ap, _∙_}
-use Prim.Native.Nat.{ℕ, _*_, _≤_}
+use Prim.Native.Nat.{ℕ, _*_}
 use native.Mathlib.Nat.{le-trans, mul-le-mul}
 use native.Mathlib.Omega.{arith}
 use borrow.Author.Needs.{needs}
