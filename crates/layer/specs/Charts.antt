@@ -163,24 +163,28 @@ cropped l top left rows columns = record {
   columns = columns;
 }
 
+-- the layer from so many map channels to so many output channels
+abbrev pub channels : (inputs outputs : ℕ) → Layer → Layer
+channels inputs outputs l = record {
+  kind = l .kind;
+  field = l .field;
+  inputs = inputs;
+  outputs = outputs;
+  height = l .height;
+  width = l .width;
+  side = l .side;
+  stride = l .stride;
+  padding = l .padding;
+  peak = l .peak;
+  top = l .top;
+  left = l .left;
+  rows = l .rows;
+  columns = l .columns;
+}
+
 -- two channels to two, 2 by 2, K 1
 abbrev two : (kind peak : ℕ) → Layer
-two kind peak = record {
-  kind = kind;
-  field = 4;
-  inputs = 2;
-  outputs = 2;
-  height = 2;
-  width = 2;
-  side = 1;
-  stride = 1;
-  padding = 0;
-  peak = peak;
-  top = 0;
-  left = 0;
-  rows = 2;
-  columns = 2;
-}
+two kind peak = channels 2 2 (whole kind 4 2 2 1 1 0 peak)
 
 abbrev upTo8 : List ℤ
 upTo8 = positive (1 ∷ 2 ∷ 3 ∷ 4 ∷ 5 ∷ 6 ∷ 7 ∷ 8 ∷ [])

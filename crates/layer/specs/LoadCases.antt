@@ -14,7 +14,7 @@ use Rattle.layer.specs.Shape.{mapCount, outputCount, convSize, tconvSize
 use Rattle.layer.specs.Load.{sizeTotal, groupTotal, greatestGroup, load, loadsFit, withinPeak}
 use Rattle.layer.specs.Checks.{cropFits, planCode, runCode}
 use Rattle.layer.specs.FormerLoad.{formerLoad, formerLoadsFit, formerRunCode}
-use Rattle.layer.specs.Charts.{CONV, TCONV, positive, minus}
+use Rattle.layer.specs.Charts.{CONV, TCONV, channels, positive, minus}
 
 -- a layer, a kernel, the number that a run answers with, and the number that it answered with before E2; the map is of ones
 pub data Case : Type 0 where
@@ -36,24 +36,9 @@ allHold (case ∷ cases) = holds case && allHold cases
 abbrev full : List ℤ
 full = replicate 16 (pos 8192)
 
--- two map channels of one value to one output channel, in TCONV with K 2 and S 2
-abbrev twoChannels : Layer
-twoChannels = record {
-  kind = 1;
-  field = 4;
-  inputs = 2;
-  outputs = 1;
-  height = 1;
-  width = 1;
-  side = 2;
-  stride = 2;
-  padding = 0;
-  peak = 1;
-  top = 0;
-  left = 0;
-  rows = 2;
-  columns = 2;
-}
+-- two map channels of one value to one output channel, K 2 and S 2
+abbrev twoToOne : Layer
+twoToOne = channels 2 1 (TCONV 4 1 1 2 2 0 1)
 
 -- ---- the table. After the kind of a layer: field, H, W, K, S, P, A
 
@@ -79,8 +64,8 @@ cases =
     ∷ judged (TCONV 4 1 1 3 4 0 2) (replicate 9 (minus 32768)) 16 16
     ∷ judged (TCONV 4 1 1 3 4 0 2) (replicate 9 (pos 16384)) 0 16
     -- a group goes over all map channels: the greatest weights of two of them add up in one group, not in two
-    ∷ judged twoChannels (positive (20000 ∷ 0 ∷ 0 ∷ 0 ∷ 0 ∷ 20000 ∷ 0 ∷ 0 ∷ [])) 0 16
-    ∷ judged twoChannels (positive (20000 ∷ 0 ∷ 0 ∷ 0 ∷ 20000 ∷ 0 ∷ 0 ∷ 0 ∷ [])) 16 16
+    ∷ judged twoToOne (positive (20000 ∷ 0 ∷ 0 ∷ 0 ∷ 0 ∷ 20000 ∷ 0 ∷ 0 ∷ [])) 0 16
+    ∷ judged twoToOne (positive (20000 ∷ 0 ∷ 0 ∷ 0 ∷ 20000 ∷ 0 ∷ 0 ∷ 0 ∷ [])) 16 16
     ∷ []
 
 -- every case of the table holds

@@ -1,6 +1,6 @@
 // The weights that reach an output channel in groups, by the remainders of their rows and columns, and the sums of the groups' sizes.
 ghost use mathlib.Core.Path.{_≡_};
-ghost use Prim.Native.Nat.{ℕ, _+_, _*_, _≤_, _<_};
+ghost use Prim.Native.Nat.{_+_, _*_, _≤_, _<_};
 ghost use lib.IntN.{pos, natAbs};
 ghost use lib.ListN.{length, getD};
 ghost use Rattle.layer.specs.Load.{groupTotal, greatestGroup};

@@ -1,6 +1,6 @@
 // The load check: for each output channel the peak times the sum of the sizes of all weights that reach it, in TCONV times the greatest group's.
 ghost use mathlib.Core.Path.{_≡_};
-ghost use Prim.Native.Nat.{_≤_, _<_};
+ghost use Prim.Native.Nat.{_<_};
 ghost use lib.Dec.{leb};
 ghost use Rattle.layer.specs.Load.{load, loadLimit, loadsFit};
 ghost use Rattle.layer.specs.Weights.{Weighted};
