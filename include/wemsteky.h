@@ -27,6 +27,12 @@
  *  27 the joined side above 11
  *  28 some joined weight not within 16 signed bits
  *
+ * The load of an output channel (check 16) bounds the size of its outputs for every map within the peak. It is the peak times the sum of the
+ * sizes of the weights that one output can meet, over all map channels. In convolution an output can meet all K by K weights. In transposed
+ * convolution with stride S it meets only weights whose rows leave the same remainder by S, and whose columns do; of these S by S groups the
+ * one with the greatest sum counts. The limit is 32,768 in field 4 and 2,147,483,647 in field 5. Where 16 comes up, use field 5, or smaller
+ * weights, or a lower peak where the map's values allow it.
+ *
  * A pointer of length 0 may not be null. Buffers may not overlap.
  */
 #ifndef WEMSTEKY_H

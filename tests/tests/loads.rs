@@ -109,27 +109,29 @@ fn meet(call: &mut Call, channel: usize, row: usize, column: usize) {
     }
 }
 
-/// The output of each group that is as large as the load, and its negative.
+/// The places, with the padding, of one output for each group: all weights of its group lie within the map there.
+fn places(layer: &Layer) -> impl Iterator<Item = (usize, usize)> {
+    let first = layer.side.div_ceil(layer.stride) * layer.stride;
+    let range = first..first + layer.stride.min(layer.side);
+    range.clone().flat_map(move |row| range.clone().map(move |column| (row, column)))
+}
+
+/// For each group an output as large as the load, of either sign.
 fn greatest_outputs(test: &'static str, field: usize) -> Vec<i64> {
     let mut reached = Vec::new();
     for (trial, window) in windows().enumerate() {
         let mut random = Random::new(test, trial);
         let mut call = full_call(&mut random, field, window);
         let layer = call.layer;
-        let (channel, first) = (random.below(layer.outputs), layer.side.div_ceil(layer.stride) * layer.stride);
-        for row in first..first + layer.stride.min(layer.side) {
-            let column = random.between(first, first + layer.stride.min(layer.side) - 1);
+        for (row, column) in places(&layer) {
+            let channel = random.below(layer.outputs);
             meet(&mut call, channel, row, column);
             let flips = random.once_in(2);
             call.map.iter_mut().filter(|_| flips).for_each(|value| *value = -*value);
             let sums = direct_sums(&layer, &call.map, &call.kernel);
             checked::run(&call, &mut draw::buffers(&mut random, &call), Some(&sums));
             let place = (channel * layer.rows + row - layer.padding) * layer.columns + column - layer.padding;
-            assert_eq!(
-                sums[place].unsigned_abs() as u128,
-                load(&call, channel),
-                "row {row}, column {column}, {layer:?}"
-            );
+            assert_eq!(sums[place].unsigned_abs() as u128, load(&call, channel), "{row}, {column} of {layer:?}");
             reached.push(sums[place]);
         }
     }

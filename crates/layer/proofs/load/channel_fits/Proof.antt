@@ -18,9 +18,7 @@ group-total-requires c κs = search needs
 
 -- the first sum is that of all sizes
 all-sizes : (c : tie.After-group-total) → let a = c .before .args in c .group-total .result ≡ sizeTotal (a .layer) (a .kernel .now) (a .m)
-all-sizes c =
-    let a = c .before .args in
-    c .group-total .ensures .0 ∙ whole-group (a .layer) (a .kernel .now) (a .m)
+all-sizes c = rw (c .group-total .ensures .0) (whole-group _ _ _)
 
 mul-if1 : tie.Need-mul-if1
 mul-if1 c = omega (arith, mul-le-mul (c .before .pre .0 .peak-most) (c .group-total .ensures .1))
