@@ -147,3 +147,16 @@ fn outputs_as_large_as_the_load() {
         assert!(reached.contains(&end), "no output is {end}, seed {}", seed());
     }
 }
+
+/// Calls as the tests of runs and jobs draw them, a quarter of them with stride 1: many kernels are let in by their
+/// groups alone.
+#[test]
+fn drawn_kernels_are_let_in_by_groups() {
+    let gained = |&trial: &usize| {
+        let mut random = Random::new("loads, drawn kernels", trial);
+        let layer = draw::any_layer(&mut random, TCONV, 4 + trial % 2, 4, 12);
+        formerly_refused(&draw::call(&mut random, layer))
+    };
+    let count = (0..1_000).filter(gained).count();
+    assert!(count > 400, "{count} of 1000 kernels are let in by groups, seed {}", seed());
+}
