@@ -1,7 +1,7 @@
 -- `channel_fits`: the sum of all sizes decides where it is within the limit, and in CONV; else the greatest group does. It rests on the laws of the
 -- load.
 use mathlib.Core.Path.{_≡_, sym, ap, _∙_}
-use Prim.Native.Nat.{ℕ, _*_}
+use Prim.Native.Nat.{ℕ, _*_, _≤_}
 use native.Mathlib.Nat.{le-trans, mul-le-mul}
 use native.Mathlib.Omega.{arith}
 use borrow.Author.Needs.{needs}
@@ -26,7 +26,8 @@ mul-if1 c = omega (arith, mul-le-mul (c .before .pre .0 .peak-most) (c .group-to
 returns : tie.Need-returns
 returns c =
     let a = c .before .before .args in
-    sym (le-leb _ _ (le-trans (load-most (a .layer) (a .kernel .now) (a .m)) (rw (all-sizes (c .before)) at (c .if1 .taken))))
+    let within : a .layer .peak * sizeTotal (a .layer) (a .kernel .now) (a .m) ≤ a .limit = omega (arith, rw (all-sizes (c .before)) at (c .if1 .taken)) in
+    sym (le-leb _ _ (le-trans (load-most (a .layer) (a .kernel .now) (a .m)) within))
 
 returns-2 : tie.Need-returns-2
 returns-2 c =
@@ -38,12 +39,16 @@ returns-2 c =
 greatest-group-requires : tie.Need-greatest-group-requires
 greatest-group-requires c κs = search needs
 
+-- the call whose groups are looked at
+abbrev call : tie.After-greatest-group → tie.Start
+call c = c .before .before .before .before .before
+
 mul-result : tie.Need-mul-result
-mul-result c = omega (arith, mul-le-mul (c .before .before .before .before .before .pre .0 .peak-most) (c .greatest-group .ensures .1))
+mul-result c = omega (arith, mul-le-mul (call c .pre .0 .peak-most) (c .greatest-group .ensures .1))
 
 returns-3 : tie.Need-returns-3
 returns-3 c =
-    let a = c .before .before .before .before .before .args in
+    let a = call c .args in
     ap (λ (n : ℕ). leb n (a .limit)) (ap (λ (n : ℕ). a .layer .peak * n) (c .greatest-group .ensures .0)
     ∙ sym (load-tconv (a .layer) (a .kernel .now) (a .m) (c .before .if2 .left)))
 
