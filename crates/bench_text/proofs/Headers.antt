@@ -10,6 +10,7 @@ use lib.Seq.{take-all}
 use Rattle.fermat.specs.RulesLaws.{outcome-lent}
 use Rattle.layer.specs.declared.shape.Layer.{Layer}
 use Rattle.layer.specs.Numbers.{layerOf}
+use Rattle.layer.specs.Engine.{tileEngine}
 use Rattle.layer.specs.Checks.{planCode}
 use Rattle.bench_text.specs.Words.{figuresOf}
 use Rattle.bench_text.specs.Lines.{refusedWord, numbered, unreadable}
@@ -36,11 +37,11 @@ module _ (input : List ℕ) where
   header-unread e = rw e
 
   module _ (e : headerReads (inputWords input) ≡ true) where
-    pub layer-refused : (planCode headerLayer ≡ 0 → ⊥) → printed input ≡ numbered refusedWord (planCode headerLayer)
+    pub layer-refused : (planCode tileEngine headerLayer ≡ 0 → ⊥) → printed input ≡ numbered refusedWord (planCode tileEngine headerLayer)
     unfolding printed
-    layer-refused broken = rw e (outcome-lent _ _ (planCode headerLayer) broken)
+    layer-refused broken = rw e (outcome-lent _ _ (planCode tileEngine headerLayer) broken)
 
-    module _ (f : planCode headerLayer ≡ 0) where
+    module _ (f : planCode tileEngine headerLayer ≡ 0) where
       pub long-unread : isLong input ≡ true → printed input ≡ unreadable
       unfolding printed
       long-unread long = rw (e, f) (long-body headerLayer (isLong input) (drop 14 (inputWords input)) long)

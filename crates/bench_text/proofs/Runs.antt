@@ -11,21 +11,24 @@ use Rattle.algebra.specs.PlacesLaws.{length-table}
 use Rattle.fermat.specs.RulesLaws.{outcome-lent}
 use Rattle.layer.specs.declared.shape.Layer.{Layer}
 use Rattle.layer.specs.Shape.{outputCount, tileTotal}
+use Rattle.layer.specs.Engine.{tileEngine}
 use Rattle.layer.specs.Direct.{directAt}
 use Rattle.layer.specs.Checks.{runCode, jobCode}
+use Rattle.layer.specs.ChecksLaws.{run-code}
+use Rattle.layer.specs.EngineLaws.{tile-lawful}
 use Rattle.engine.specs.declared.job.Progress.{Progress}
 use Rattle.engine.specs.Call.{startOf, Called}
 use Rattle.engine.specs.CallsLaws.{called-code}
-use Rattle.engine.specs.RunLaws.{run-code, run-frame}
+use Rattle.engine.specs.RunLaws.{run-frame}
 use Rattle.bench_text.specs.Lines.{tilesWord, refusedWord, numbered, rowsText}
 use Rattle.bench_text.specs.Printed.{ran}
 
 module _ {l : Layer} {map kernel output : List ℤ} {scratch : List ℕ} {progress : Progress} {output-left : List ℤ} {scratch-left : List ℕ}
-    (called : Called (startOf l) (tileTotal l) map kernel output scratch progress output-left scratch-left)
+    (called : Called tileEngine (startOf l) (tileTotal l) map kernel output scratch progress output-left scratch-left)
   where
     -- the code of the checks
     abbrev checked : ℕ
-    checked = jobCode l 0 map kernel (length output) (length scratch)
+    checked = jobCode tileEngine l 0 map kernel (length output) (length scratch)
 
     code-is : progress .code ≡ checked
     code-is = called-code called
@@ -36,8 +39,8 @@ module _ {l : Layer} {map kernel output : List ℤ} {scratch : List ℕ} {progre
         ap (λ (p : Progress). p .count) (rw passed at (called .answers)) ∙ omega arith
 
     module _ (outputs : length output ≡ outputCount l) (words : length scratch ≡ 3072) where
-      run-code-is : progress .code ≡ runCode l map kernel (outputCount l) 3072
-      run-code-is = rw (outputs, words, run-code l map kernel (outputCount l) 3072) at code-is
+      run-code-is : progress .code ≡ runCode tileEngine l map kernel (outputCount l) 3072
+      run-code-is = rw (outputs, words, run-code tileEngine l map kernel (outputCount l) 3072) at code-is
 
       pub run-refused : (progress .code ≡ 0 → ⊥) → ran l map kernel ≡ numbered refusedWord (progress .code)
       unfolding ran
@@ -47,5 +50,5 @@ module _ {l : Layer} {map kernel output : List ℤ} {scratch : List ℕ} {progre
           → ran l map kernel ≡ numbered tilesWord (progress .count) ++ rowsText (l .columns) (length output-left) output-left
       unfolding ran
       run-accepted e =
-          let sums : output-left ≡ table (outputCount l) (directAt l map kernel) = rw outputs at (run-frame called e) in
+          let sums : output-left ≡ table (outputCount l) (directAt l map kernel) = rw outputs at (run-frame called tile-lawful e) in
           rw (← run-code-is, e, count-is e, sums, length-table (outputCount l) (directAt l map kernel))

@@ -10,6 +10,7 @@ use Rattle.fermat.specs.Rules.{outcome}
 use Rattle.layer.specs.declared.shape.Layer.{Layer}
 use Rattle.layer.specs.Numbers.{layerOf}
 use Rattle.layer.specs.Shape.{mapCount, kernelCount, outputCount, tileTotal}
+use Rattle.layer.specs.Engine.{tileEngine}
 use Rattle.layer.specs.Direct.{directAt}
 use Rattle.layer.specs.Checks.{planCode, runCode}
 use Rattle.bench_text.specs.Words.{wordsOf, everyWord, isFigure, isValue, figuresOf, valuesOf}
@@ -24,7 +25,7 @@ frame l map kernel =
 
 unfoldable pub ran : Layer → (map kernel : List ℤ) → List ℕ
 ran l map kernel =
-    let code = runCode l map kernel (outputCount l) 3072 in outcome code (frame l map kernel) (numbered refusedWord code)
+    let code = runCode tileEngine l map kernel (outputCount l) 3072 in outcome code (frame l map kernel) (numbered refusedWord code)
 
 -- ---- map and kernel: whether the words after the header are what a layer of that shape asks for
 
@@ -60,7 +61,7 @@ bodyPrinted l long body = cond (small l && not long && bodyReads l body) (ran l 
 
 -- after a header that reads
 abbrev pub layerPrinted : Layer → (long : Bool) → (body : List (List ℕ)) → List ℕ
-layerPrinted l long body = outcome (planCode l) (bodyPrinted l long body) (numbered refusedWord (planCode l))
+layerPrinted l long body = outcome (planCode tileEngine l) (bodyPrinted l long body) (numbered refusedWord (planCode tileEngine l))
 
 unfoldable pub printed : List ℕ → List ℕ
 printed input =

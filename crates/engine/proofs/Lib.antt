@@ -1,5 +1,5 @@
 -- laws that the proofs share
-mod TilesWritten
+mod PartsWritten
 mod Scratch
 mod Outcomes
 mod ThreeCalls

@@ -1,6 +1,6 @@
 -- What a call comes to, by its code: refused where the code is not 0, accepted where it is 0. A call that is refused is so with every
 -- budget, and so is that of a layer whose plan is refused. No call changes the length of a buffer. It rests on what the code 0 says of a
--- call, and on the laws of finished tiles.
+-- call, and on the laws of finished parts.
 use mathlib.Core.Path.{_≡_, refl, sym, ap, _∙_}
 use mathlib.Core.List.{List}
 use Prim.Native.Nat.{ℕ, zero, suc, _+_}
@@ -11,20 +11,20 @@ use Rattle.algebra.specs.PlacesLaws.{length-table}
 use Rattle.fermat.specs.Rules.{outcome}
 use Rattle.fermat.specs.RulesLaws.{outcome-made, outcome-lent}
 use Rattle.layer.specs.declared.shape.Layer.{Layer}
-use Rattle.layer.specs.Shape.{scratchWords, tileTotal}
+use Rattle.layer.specs.Engine.{Engine}
 use Rattle.layer.specs.Checks.{planCode, figures, planOf}
-use Rattle.layer.specs.ChecksLaws.{job-callable}
+use Rattle.layer.specs.ChecksLaws.{run-plans, job-runs}
 use Rattle.engine.specs.declared.job.Job.{Job}
 use Rattle.engine.specs.declared.job.Progress.{Progress}
 use Rattle.engine.specs.Call.{startOf, countOf, accepted, refused, finished, cleared, callCode, Called}
 use Rattle.engine.specs.FinishedLaws.{length-finished}
 
-module _ (job : Job) (budget : ℕ) (map kernel output : List ℤ) (scratch : List ℕ) where
+module _ (engine : Engine) (job : Job) (budget : ℕ) (map kernel output : List ℤ) (scratch : List ℕ) where
   abbrev code : ℕ
-  code = callCode job map kernel output scratch
+  code = callCode engine job map kernel (length output) (length scratch)
 
   pub refused-call : (answer : ℕ) → answer ≡ code → (answer ≡ 0 → ⊥)
-      → Called job budget map kernel output scratch (refused job answer) output scratch
+      → Called engine job budget map kernel output scratch (refused job answer) output scratch
   refused-call answer e broken =
       let stopped : code ≡ 0 → ⊥ = λ z. broken (e ∙ z) in
       record {
@@ -33,40 +33,41 @@ module _ (job : Job) (budget : ℕ) (map kernel output : List ℤ) (scratch : Li
         clears = sym (outcome-lent _ _ code stopped);
       }
 
-  pub accepted-call : {output-left : List ℤ} {scratch-left : List ℕ} (count : ℕ) → code ≡ 0 → count ≡ countOf job budget
-      → output-left ≡ finished (job .layer) map kernel (job .next) (job .next + count) output
-      → scratch-left ≡ cleared (scratchWords (job .layer)) scratch
-      → Called job budget map kernel output scratch (accepted job count) output-left scratch-left
-  accepted-call count kept is tiles words = record {
-    answers = ap (accepted job) is ∙ sym (outcome-made _ _ kept);
-    writes = tiles ∙ ap (λ (n : ℕ). finished (job .layer) map kernel (job .next) (job .next + n) output) is ∙ sym (outcome-made _ _ kept);
+  pub accepted-call : {output-left : List ℤ} {scratch-left : List ℕ} (count : ℕ) → code ≡ 0 → count ≡ countOf engine job budget
+      → output-left ≡ finished engine (job .layer) map kernel (job .next) (job .next + count) output
+      → scratch-left ≡ cleared (engine .words (job .layer)) scratch
+      → Called engine job budget map kernel output scratch (accepted engine job count) output-left scratch-left
+  accepted-call count kept is parts words = record {
+    answers = ap (accepted engine job) is ∙ sym (outcome-made _ _ kept);
+    writes =
+        parts ∙ ap (λ (n : ℕ). finished engine (job .layer) map kernel (job .next) (job .next + n) output) is ∙ sym (outcome-made _ _ kept);
     clears = words ∙ sym (outcome-made _ _ kept);
   }
 
   pub refused-any-budget : {progress : Progress} {output-left : List ℤ} {scratch-left : List ℕ} (other : ℕ) → (code ≡ 0 → ⊥)
-      → Called job other map kernel output scratch progress output-left scratch-left
-      → Called job budget map kernel output scratch progress output-left scratch-left
+      → Called engine job other map kernel output scratch progress output-left scratch-left
+      → Called engine job budget map kernel output scratch progress output-left scratch-left
   refused-any-budget other broken call = record {
     answers = call .answers ∙ outcome-lent _ _ code broken ∙ sym (outcome-lent _ _ code broken);
     writes = call .writes ∙ outcome-lent _ _ code broken ∙ sym (outcome-lent _ _ code broken);
     clears = call .clears;
   }
 
--- the plan's tiles as the budget: the total, or 0 where the plan and thus the call is refused
+-- the plan's total as the budget: the total, or 0 where the plan and thus the call is refused
 pub planned-budget : {progress : Progress} {output-left : List ℤ} {scratch-left : List ℕ}
-    (l : Layer) (map kernel output : List ℤ) (scratch : List ℕ)
-    → Called (startOf l) (planOf l .tiles) map kernel output scratch progress output-left scratch-left
-    → Called (startOf l) (tileTotal l) map kernel output scratch progress output-left scratch-left
+    (engine : Engine) (l : Layer) (map kernel output : List ℤ) (scratch : List ℕ)
+    → Called engine (startOf l) (planOf engine l .tiles) map kernel output scratch progress output-left scratch-left
+    → Called engine (startOf l) (engine .total l) map kernel output scratch progress output-left scratch-left
 unfolding planOf
-planned-budget {progress} {output-left} {scratch-left} l map kernel output scratch = by-plan (planCode l) refl
+planned-budget {progress} {output-left} {scratch-left} engine l map kernel output scratch = by-plan (planCode engine l) refl
   where
-    by-plan : (code : ℕ) → planCode l ≡ code
-        → Called (startOf l) (figures code l .tiles) map kernel output scratch progress output-left scratch-left
-        → Called (startOf l) (tileTotal l) map kernel output scratch progress output-left scratch-left
+    by-plan : (code : ℕ) → planCode engine l ≡ code
+        → Called engine (startOf l) (figures engine code l .tiles) map kernel output scratch progress output-left scratch-left
+        → Called engine (startOf l) (engine .total l) map kernel output scratch progress output-left scratch-left
     by-plan zero e call = call
     by-plan (suc code) e call =
-        refused-any-budget (startOf l) (tileTotal l) map kernel output scratch 0
-        (λ kept. omega (arith, e, job-callable l map kernel (length output) (length scratch) 0 kept .0 .plan)) call
+        refused-any-budget engine (startOf l) (engine .total l) map kernel output scratch 0
+        (λ kept. omega (arith, e, run-plans engine l map kernel _ _ (job-runs engine l map kernel _ _ 0 kept .0))) call
 
 -- ---- lengths
 
@@ -75,15 +76,16 @@ outcome-length : {A : Type 0} (made lent left : List A) (code : ℕ) → left �
 outcome-length made lent left zero e same = ap length e ∙ same
 outcome-length made lent left (suc code) e same = ap length e
 
-module _ {job : Job} {budget : ℕ} {map kernel output : List ℤ} {scratch : List ℕ}
+module _ {engine : Engine} {job : Job} {budget : ℕ} {map kernel output : List ℤ} {scratch : List ℕ}
     {progress : Progress} {output-left : List ℤ} {scratch-left : List ℕ}
-    (call : Called job budget map kernel output scratch progress output-left scratch-left)
+    (call : Called engine job budget map kernel output scratch progress output-left scratch-left)
   where
     pub output-length : length output-left ≡ length output
     output-length =
-        outcome-length _ _ _ (callCode job map kernel output scratch) (call .writes)
-        (length-finished (job .layer) map kernel (job .next) (job .next + countOf job budget) output)
+        outcome-length _ _ _ (callCode engine job map kernel (length output) (length scratch)) (call .writes)
+        (length-finished engine (job .layer) map kernel (job .next) (job .next + countOf engine job budget) output)
 
     pub scratch-length : length scratch-left ≡ length scratch
     unfolding cleared
-    scratch-length = outcome-length _ _ _ (callCode job map kernel output scratch) (call .clears) (length-table (length scratch) _)
+    scratch-length =
+        outcome-length _ _ _ (callCode engine job map kernel (length output) (length scratch)) (call .clears) (length-table (length scratch) _)

@@ -1,4 +1,4 @@
--- 01, "A job": what one call comes to, for every job, budget, length and value. A refused call leaves everything as it was lent.
+-- 01, "A job": what one call comes to, in any engine, for every job, budget, length and value. A refused call leaves everything as it was lent.
 use mathlib.Core.Path.{_≡_}
 use mathlib.Core.Bool.{false, _&&_, cond}
 use mathlib.Core.List.{List}
@@ -9,58 +9,66 @@ use lib.ListN.{length, getD}
 use Rattle.algebra.specs.Places.{table}
 use Rattle.fermat.specs.Rules.{outcome}
 use Rattle.layer.specs.declared.shape.Layer.{Layer}
-use Rattle.layer.specs.Shape.{scratchWords, tileTotal, tileOf}
+use Rattle.layer.specs.Engine.{Engine}
 use Rattle.layer.specs.Direct.{directAt}
 use Rattle.layer.specs.Checks.{jobCode}
 use Rattle.engine.specs.declared.job.Job.{Job}
 use Rattle.engine.specs.declared.job.Progress.{Progress}
 
--- the layer's job at tile 0
+-- the layer's job at part 0
 abbrev pub startOf : Layer → Job
 startOf l = record { layer = l; next = 0 }
 
--- the tiles that an accepted call finishes: the lesser of the budget and the tiles left
-abbrev pub countOf : Job → (budget : ℕ) → ℕ
-countOf job budget = min budget (tileTotal (job .layer) - job .next)
-
--- ---- the answer
-
--- of an accepted call: done exactly when the index handed back equals the total
-abbrev pub accepted : Job → (count : ℕ) → Progress
-accepted job count = record {
-  code = 0;
-  count = count;
-  job = record { layer = job .layer; next = job .next + count };
-  done = eqb (job .next + count) (tileTotal (job .layer));
-}
-
--- of a refused one: the job as given
+-- what a refused call answers: the job as given
 abbrev pub refused : Job → (code : ℕ) → Progress
 refused job code = record { code = code; count = 0; job = job; done = false }
 
--- ---- the buffers
-
--- the output once the tiles from `from` up to `to` are finished: at their places the direct sums, elsewhere what was lent
-unfoldable pub finished : Layer → (map kernel : List ℤ) → (from to : ℕ) → List ℤ → List ℤ
-finished l map kernel from to output =
-    table (length output) (λ p. cond (leb from (tileOf l p) && ltb (tileOf l p) to) (directAt l map kernel p) (getD output p (pos 0)))
-
--- the first `count` words 0, later ones as lent
+-- scratch with the first `count` words 0, later ones as lent
 unfoldable pub cleared : (count : ℕ) → List ℕ → List ℕ
 cleared count words = table (length words) (λ i. cond (ltb i count) 0 (getD words i 0))
 
--- ---- the call
+module _ (engine : Engine) where
+  -- ---- the answer
 
-abbrev pub callCode : Job → (map kernel output : List ℤ) → (scratch : List ℕ) → ℕ
-callCode job map kernel output scratch = jobCode (job .layer) (job .next) map kernel (length output) (length scratch)
+  -- the parts that an accepted call finishes: the lesser of the budget and the parts left
+  abbrev pub countOf : Job → (budget : ℕ) → ℕ
+  countOf job budget = min budget (engine .total (job .layer) - job .next)
 
--- a call of the job with that budget, lent a map, a kernel, an output and scratch, answers `progress` and leaves the last two
-pub record Called
-    (job : Job) (budget : ℕ) (map kernel output : List ℤ) (scratch : List ℕ) (progress : Progress) (output-left : List ℤ) (scratch-left : List ℕ)
-    : Type 0
-  where
-    pub answers : progress ≡ outcome (callCode job map kernel output scratch)
-        (accepted job (countOf job budget)) (refused job (callCode job map kernel output scratch))
-    pub writes : output-left ≡ outcome (callCode job map kernel output scratch)
-        (finished (job .layer) map kernel (job .next) (job .next + countOf job budget) output) output
-    pub clears : scratch-left ≡ outcome (callCode job map kernel output scratch) (cleared (scratchWords (job .layer)) scratch) scratch
+  -- what an accepted call answers: done exactly when the index handed back equals the total
+  abbrev pub accepted : Job → (count : ℕ) → Progress
+  accepted job count = record {
+    code = 0;
+    count = count;
+    job = record { layer = job .layer; next = job .next + count };
+    done = eqb (job .next + count) (engine .total (job .layer));
+  }
+
+  -- the number of the first check broken, or 0. The checks read the map and the kernel, and the lengths of output and scratch
+  abbrev pub callCode : Job → (map kernel : List ℤ) → (output scratch : ℕ) → ℕ
+  callCode job map kernel output scratch = jobCode engine (job .layer) (job .next) map kernel output scratch
+
+  -- what a call of the job with that budget answers
+  abbrev pub answerOf : Job → (budget : ℕ) → (map kernel : List ℤ) → (output scratch : ℕ) → Progress
+  answerOf job budget map kernel output scratch =
+      outcome (callCode job map kernel output scratch) (accepted job (countOf job budget)) (refused job (callCode job map kernel output scratch))
+
+  -- ---- the output
+
+  -- the output once the parts from `from` up to `to` are finished: at their places the direct sums, elsewhere what was lent
+  unfoldable pub finished : Layer → (map kernel : List ℤ) → (from to : ℕ) → List ℤ → List ℤ
+  finished l map kernel from to output =
+      table (length output)
+      (λ p. cond (leb from (engine .partOf l p) && ltb (engine .partOf l p) to) (directAt l map kernel p) (getD output p (pos 0)))
+
+  -- ---- the call
+
+  -- a call of the job with that budget, lent a map, a kernel, an output and scratch, answers `progress` and leaves the last two
+  pub record Called
+      (job : Job) (budget : ℕ) (map kernel output : List ℤ) (scratch : List ℕ) (progress : Progress) (output-left : List ℤ) (scratch-left : List ℕ)
+      : Type 0
+    where
+      pub answers : progress ≡ answerOf job budget map kernel (length output) (length scratch)
+      pub writes : output-left ≡ outcome (callCode job map kernel (length output) (length scratch))
+          (finished (job .layer) map kernel (job .next) (job .next + countOf job budget) output) output
+      pub clears : scratch-left ≡ outcome (callCode job map kernel (length output) (length scratch))
+          (cleared (engine .words (job .layer)) scratch) scratch

@@ -1,5 +1,5 @@
--- What a list of calls comes to: the job and the output after it, by the sum of the accepted calls' budgets. A whole run is such a list. It
--- rests on the laws of the checks and on those of finished tiles.
+-- What a list of calls comes to: the job and the output after it, by the sum of the accepted calls' budgets. It rests on the
+-- laws of the checks and on those of finished parts.
 use mathlib.Core.Path.{_≡_, refl, sym, ap, _∙_}
 use mathlib.Core.List.{List, [], _∷_}
 use Prim.Native.Nat.{ℕ, zero, suc, _+_, _-_, _<_, min}
@@ -10,9 +10,9 @@ use lib.ListN.{length}
 use Rattle.algebra.specs.Places.{table}
 use Rattle.fermat.specs.Rules.{outcome}
 use Rattle.layer.specs.declared.shape.Layer.{Layer}
-use Rattle.layer.specs.Shape.{tileTotal}
+use Rattle.layer.specs.Engine.{Engine}
 use Rattle.layer.specs.Direct.{directAt}
-use Rattle.layer.specs.ChecksLaws.{Callable, planned, job-callable}
+use Rattle.layer.specs.ChecksLaws.{Lawful, Callable, job-callable}
 use Rattle.engine.specs.declared.job.Job.{Job}
 use Rattle.engine.specs.declared.job.Progress.{Progress}
 use Rattle.engine.specs.Call.{startOf, countOf, accepted, refused, finished, callCode, Called}
@@ -22,63 +22,63 @@ use Rattle.engine.specs.FinishedLaws.{finished-none, finished-then, fini
 -- ---- one call
 
 -- the code is what the checks answer
-pub called-code : {job : Job} {budget : ℕ} {map kernel output : List ℤ} {scratch : List ℕ} {progress : Progress}
-    {output-left : List ℤ} {scratch-left : List ℕ} → Called job budget map kernel output scratch progress output-left scratch-left
-    → progress .code ≡ callCode job map kernel output scratch
-called-code {job} {budget} {map} {kernel} {output} {scratch} called =
-    ap (λ (p : Progress). p .code) (called .answers) ∙ by-code (callCode job map kernel output scratch)
+pub called-code : {engine : Engine} {job : Job} {budget : ℕ} {map kernel output : List ℤ} {scratch : List ℕ} {progress : Progress}
+    {output-left : List ℤ} {scratch-left : List ℕ} → Called engine job budget map kernel output scratch progress output-left scratch-left
+    → progress .code ≡ callCode engine job map kernel (length output) (length scratch)
+called-code {engine} {job} {budget} {map} {kernel} {output} {scratch} called =
+    ap (λ (p : Progress). p .code) (called .answers) ∙ by-code (callCode engine job map kernel (length output) (length scratch))
   where
-    by-code : (code : ℕ) → outcome code (accepted job (countOf job budget)) (refused job code) .code ≡ code
+    by-code : (code : ℕ) → outcome code (accepted engine job (countOf engine job budget)) (refused job code) .code ≡ code
     by-code zero = refl
     by-code (suc code) = refl
 
--- what an accepted call was lent, and what it comes to
-pub record Took (call : Call) : Type 0 where
-  pub callable : Callable (call .job .layer) (call .map) (call .kernel) (length (call .output)) (length (call .scratch))
-  pub moved : call .progress .job ≡ record { layer = call .job .layer; next = call .job .next + countOf (call .job) (call .budget) }
-  pub writes : call .output-left ≡ finished (call .job .layer) (call .map) (call .kernel)
-      (call .job .next) (call .job .next + countOf (call .job) (call .budget)) (call .output)
+module _ {engine : Engine} where
+  -- what an accepted call comes to
+  record Took (call : Call engine) : Type 0 where
+    moved : call .progress .job ≡ record { layer = call .job .layer; next = call .job .next + countOf engine (call .job) (call .budget) }
+    writes : call .output-left ≡ finished engine (call .job .layer) (call .map) (call .kernel)
+        (call .job .next) (call .job .next + countOf engine (call .job) (call .budget)) (call .output)
 
--- what a refused one comes to
-record Kept (call : Call) : Type 0 where
-  moved : call .progress .job ≡ call .job
-  writes : call .output-left ≡ call .output
+  -- what a refused one comes to
+  record Kept (call : Call engine) : Type 0 where
+    moved : call .progress .job ≡ call .job
+    writes : call .output-left ≡ call .output
 
-module _ (call : Call) where
-  abbrev checked : ℕ
-  checked = callCode (call .job) (call .map) (call .kernel) (call .output) (call .scratch)
+  module _ (call : Call engine) where
+    abbrev checked : ℕ
+    checked = callCode engine (call .job) (call .map) (call .kernel) (length (call .output)) (length (call .scratch))
 
-  code-is : call .progress .code ≡ checked
-  code-is = called-code (call .promise)
+    code-is : call .progress .code ≡ checked
+    code-is = called-code (call .promise)
 
-  pub took : call .progress .code ≡ 0 → Took call
-  took e =
-      let passed : checked ≡ 0 = sym code-is ∙ e in
-      record {
-        callable =
-            job-callable (call .job .layer) (call .map) (call .kernel) (length (call .output)) (length (call .scratch)) (call .job .next) passed .0;
-        moved = ap (λ (p : Progress). p .job) (rw passed at (call .promise .answers));
-        writes = rw passed at (call .promise .writes);
-      }
+    took : call .progress .code ≡ 0 → Took call
+    took e =
+        let passed : checked ≡ 0 = sym code-is ∙ e in
+        record { moved = ap (λ (p : Progress). p .job) (rw passed at (call .promise .answers)); writes = rw passed at (call .promise .writes) }
 
-  kept : {code : ℕ} → call .progress .code ≡ suc code → Kept call
-  kept {code} e =
-      let broken : checked ≡ suc code = sym code-is ∙ e in
-      record { moved = ap (λ (p : Progress). p .job) (rw broken at (call .promise .answers)); writes = rw broken at (call .promise .writes) }
+    kept : {code : ℕ} → call .progress .code ≡ suc code → Kept call
+    kept {code} e =
+        let broken : checked ≡ suc code = sym code-is ∙ e in
+        record { moved = ap (λ (p : Progress). p .job) (rw broken at (call .promise .answers)); writes = rw broken at (call .promise .writes) }
+
+    -- what an accepted call was lent
+    pub call-callable : Lawful engine → call .progress .code ≡ 0
+        → Callable engine (call .job .layer) (call .map) (call .kernel) (length (call .output)) (length (call .scratch))
+    call-callable lawful e = job-callable engine (call .job .layer) _ _ _ _ lawful (call .job .next) (sym code-is ∙ e) .0
 
 -- ---- call after call
 
-module _ (l : Layer) (map kernel first : List ℤ) where
+module _ (engine : Engine) (l : Layer) (map kernel first : List ℤ) where
   -- the job and the output once the accepted budgets come to `budgets`
   record After (budgets : ℕ) (job : Job) (output : List ℤ) : Type 0 where
-    moved : job ≡ record { layer = l; next = min (tileTotal l) budgets }
-    written : output ≡ finished l map kernel 0 (min (tileTotal l) budgets) first
+    moved : job ≡ record { layer = l; next = min (engine .total l) budgets }
+    written : output ≡ finished engine l map kernel 0 (min (engine .total l) budgets) first
 
-  -- from the index on, the lesser of the budget and the tiles left
+  -- from the index on, the lesser of the budget and the parts left
   reach : (total budgets budget : ℕ) → min total budgets + min budget (total - min total budgets) ≡ min total (budgets + budget)
   reach total budgets budget = omega arith
 
-  after-call : (budgets : ℕ) (call : Call) → (call .progress .code ≡ 0 → (call .map ≡ map) × (call .kernel ≡ kernel))
+  after-call : (budgets : ℕ) (call : Call engine) → (call .progress .code ≡ 0 → (call .map ≡ map) × (call .kernel ≡ kernel))
       → After budgets (call .job) (call .output)
       → After (budgets + outcome (call .progress .code) (call .budget) 0) (call .progress .job) (call .output-left)
   after-call budgets call lent before = go (call .progress .code) refl
@@ -86,18 +86,18 @@ module _ (l : Layer) (map kernel first : List ℤ) where
       go : (code : ℕ) → call .progress .code ≡ code → After (budgets + outcome code (call .budget) 0) (call .progress .job) (call .output-left)
       go zero e =
           let t : Took call = took call e in
-          let to = reach (tileTotal l) budgets (call .budget) in
+          let to = reach (engine .total l) budgets (call .budget) in
           record {
             moved = rw (before .moved, to) at (t .moved);
             written =
                 rw (before .moved, to, before .written, lent e .0, lent e .1) at (t .writes)
-                ∙ finished-then l map kernel 0 (min (tileTotal l) budgets) _ first (omega arith) (omega arith);
+                ∙ finished-then engine l map kernel 0 (min (engine .total l) budgets) _ first (omega arith) (omega arith);
           }
       go (suc code) e =
           let k : Kept call = kept call e in
           rw add-zero (record { moved = k .moved ∙ before .moved; written = k .writes ∙ before .written })
 
-  after-calls : (budgets : ℕ) {job : Job} {output : List ℤ} (calls : List Call) → Chained map kernel job output calls
+  after-calls : (budgets : ℕ) {job : Job} {output : List ℤ} (calls : List (Call engine)) → Chained map kernel job output calls
       → After budgets job output → After (budgets + acceptedBudgets calls) (jobAfter job calls) (outputAfter output calls)
   after-calls budgets [] chained before = rw add-zero before
   after-calls budgets (call ∷ calls) (job, output, lent, rest) before =
@@ -106,23 +106,23 @@ module _ (l : Layer) (map kernel first : List ℤ) where
       (after-calls (budgets + budget) calls rest (after-call budgets call lent (rw (job, output) before)))
 
 -- the checks 1 to 16 pass with scratch of some length
-pub record Passes (l : Layer) (map kernel : List ℤ) (output : ℕ) : Type 0 where
+pub record Passes (engine : Engine) (l : Layer) (map kernel : List ℤ) (output : ℕ) : Type 0 where
   pub scratch : ℕ
-  pub callable : Callable l map kernel output scratch
+  pub callable : Callable engine l map kernel output scratch
 
 -- they do where a call was accepted: no call changes the layer or the length of the output
-passes : {map kernel : List ℤ} (job : Job) (output : List ℤ) (calls : List Call) → Chained map kernel job output calls
-    → 0 < acceptedCalls calls → Passes (job .layer) map kernel (length output)
-passes job output [] chained some = absurd (omega arith)
-passes {map} {kernel} job output (call ∷ calls) (same-job, same-output, lent, rest) some =
-    go (call .progress .code) refl (passes (call .progress .job) (call .output-left) calls rest)
+passes : {engine : Engine} → Lawful engine → {map kernel : List ℤ} (job : Job) (output : List ℤ) (calls : List (Call engine))
+    → Chained map kernel job output calls → 0 < acceptedCalls calls → Passes engine (job .layer) map kernel (length output)
+passes lawful job output [] chained some = absurd (omega arith)
+passes {engine} lawful {map} {kernel} job output (call ∷ calls) (same-job, same-output, lent, rest) some =
+    go (call .progress .code) refl (passes lawful (call .progress .job) (call .output-left) calls rest)
   where
     go : (code : ℕ) → call .progress .code ≡ code
-        → (0 < acceptedCalls calls → Passes (call .progress .job .layer) map kernel (length (call .output-left)))
-        → Passes (job .layer) map kernel (length output)
+        → (0 < acceptedCalls calls → Passes engine (call .progress .job .layer) map kernel (length (call .output-left)))
+        → Passes engine (job .layer) map kernel (length output)
     go zero e later = record {
       scratch = length (call .scratch);
-      callable = rw (same-job, same-output, lent e .0, lent e .1) at (took call e .callable);
+      callable = rw (same-job, same-output, lent e .0, lent e .1) at (call-callable call lawful e);
     }
     go (suc code) e later =
         let k : Kept call = kept call e in
@@ -130,31 +130,32 @@ passes {map} {kernel} job output (call ∷ calls) (same-job, same-output, lent, 
 
 -- ---- a whole list
 
-module _ {l : Layer} {map kernel : List ℤ} (list : JobCalls l map kernel) where
-  after : After l map kernel (list .first) (acceptedBudgets (list .calls)) (jobAfter (startOf l) (list .calls)) (outputOf list)
-  after = rw zero-add at (after-calls l map kernel (list .first) 0 (list .calls) (list .chained) start)
+module _ {engine : Engine} {l : Layer} {map kernel : List ℤ} (list : JobCalls engine l map kernel) where
+  after : After engine l map kernel (list .first) (acceptedBudgets (list .calls)) (jobAfter (startOf l) (list .calls)) (outputOf list)
+  after = rw zero-add at (after-calls engine l map kernel (list .first) 0 (list .calls) (list .chained) start)
     where
-      none : min (tileTotal l) 0 ≡ 0
+      none : min (engine .total l) 0 ≡ 0
       none = omega arith
 
-      start : After l map kernel (list .first) 0 (startOf l) (list .first)
-      start = record { moved = rw none; written = rw (none, finished-none l map kernel 0 (list .first)) }
+      start : After engine l map kernel (list .first) 0 (startOf l) (list .first)
+      start = record { moved = rw none; written = rw (none, finished-none engine l map kernel 0 (list .first)) }
 
-  -- the job's index is the lesser of the tile total and the sum of the accepted calls' budgets
-  pub calls-job : jobAfter (startOf l) (list .calls) ≡ record { layer = l; next = min (tileTotal l) (acceptedBudgets (list .calls)) }
+  -- the job's index is the lesser of the total and the sum of the accepted calls' budgets
+  pub calls-job : jobAfter (startOf l) (list .calls) ≡ record { layer = l; next = min (engine .total l) (acceptedBudgets (list .calls)) }
   calls-job = after .moved
 
-  -- and the tiles below it are finished
-  pub calls-output : outputOf list ≡ finished l map kernel 0 (min (tileTotal l) (acceptedBudgets (list .calls))) (list .first)
+  -- and the parts below it are finished
+  pub calls-output : outputOf list ≡ finished engine l map kernel 0 (min (engine .total l) (acceptedBudgets (list .calls))) (list .first)
   calls-output = after .written
 
-  -- where a call was accepted, the checks 1 to 16 pass
-  pub calls-callable : 0 < acceptedCalls (list .calls) → Passes l map kernel (length (list .first))
-  calls-callable some = passes (startOf l) (list .first) (list .calls) (list .chained) some
+  module _ (lawful : Lawful engine) where
+    -- where a call was accepted, the checks 1 to 16 pass
+    pub calls-callable : 0 < acceptedCalls (list .calls) → Passes engine l map kernel (length (list .first))
+    calls-callable some = passes lawful (startOf l) (list .first) (list .calls) (list .chained) some
 
-  -- budgets that reach the total: every output is a direct sum
-  pub reached : Reaches list → outputOf list ≡ table (length (list .first)) (directAt l map kernel)
-  reached reaches =
-      let may = calls-callable (reaches .some) .callable in
-      let all : min (tileTotal l) (acceptedBudgets (list .calls)) ≡ tileTotal l = omega (arith, reaches .enough) in
-      calls-output ∙ rw all (finished-all l map kernel (list .first) (planned l (may .plan)) (may .output-length))
+    -- budgets that reach the total: every output is a direct sum
+    pub reached : Reaches list → outputOf list ≡ table (length (list .first)) (directAt l map kernel)
+    reached reaches =
+        let may = calls-callable (reaches .some) .callable in
+        let all : min (engine .total l) (acceptedBudgets (list .calls)) ≡ engine .total l = omega (arith, reaches .enough) in
+        calls-output ∙ rw all (finished-all engine l map kernel lawful (list .first) (may .plan) (may .output-length))

@@ -1,9 +1,9 @@
--- What an output holds once tiles are finished: place by place, for no tile, for two runs of tiles in a row and for all tiles. It rests on
--- the laws of tables and of tiles.
+-- What an output holds once parts are finished: place by place, for no part, for two runs of parts in a row and for all parts. It rests on
+-- the laws of tables.
 use mathlib.Core.Path.{_≡_, refl, sym, _∙_}
 use mathlib.Core.Bool.{Bool, _&&_, cond}
 use mathlib.Core.List.{List}
-use Prim.Native.Nat.{ℕ, _*_, _<_, _≤_}
+use Prim.Native.Nat.{ℕ, _<_, _≤_}
 use native.Mathlib.Decide.{decLt}
 use native.Mathlib.Omega.{arith}
 use lib.Dec.{leb, ltb}
@@ -14,64 +14,64 @@ use borrow.Author.Tests.{le-leb, lt-leb, lt-ltb, le-ltb}
 use Rattle.algebra.specs.Places.{table}
 use Rattle.algebra.specs.PlacesLaws.{length-table, getD-table, table-of}
 use Rattle.layer.specs.declared.shape.Layer.{Layer}
-use Rattle.layer.specs.Shape.{tileTotal, tileOf}
+use Rattle.layer.specs.Shape.{outputCount}
+use Rattle.layer.specs.Engine.{Engine}
 use Rattle.layer.specs.Direct.{directAt}
-use Rattle.layer.specs.ChecksLaws.{Planned}
-use Rattle.layer.specs.TileLaws.{planned-tiled, tile-of-lt}
+use Rattle.layer.specs.ChecksLaws.{Planned, Lawful}
 use Rattle.engine.specs.Call.{finished}
 
-module _ (l : Layer) (map kernel : List ℤ) where
+module _ (engine : Engine) (l : Layer) (map kernel : List ℤ) where
   -- ---- place by place
 
-  pub length-finished : (from to : ℕ) (output : List ℤ) → length (finished l map kernel from to output) ≡ length output
+  pub length-finished : (from to : ℕ) (output : List ℤ) → length (finished engine l map kernel from to output) ≡ length output
   unfolding finished
   length-finished from to output = length-table (length output) _
 
   module _ (from to : ℕ) (output : List ℤ) (p : ℕ) (below : p < length output) where
-    -- by the test of the place's tile
-    by-test : {low high : Bool} → leb from (tileOf l p) ≡ low → ltb (tileOf l p) to ≡ high
-        → getD (finished l map kernel from to output) p (pos 0) ≡ cond (low && high) (directAt l map kernel p) (getD output p (pos 0))
+    -- by the test of the place's part
+    by-test : {low high : Bool} → leb from (engine .partOf l p) ≡ low → ltb (engine .partOf l p) to ≡ high
+        → getD (finished engine l map kernel from to output) p (pos 0) ≡ cond (low && high) (directAt l map kernel p) (getD output p (pos 0))
     unfolding finished
     by-test a b = getD-table (pos 0) (length output) _ p below ∙ rw (a, b)
 
-    -- the place lies in one of the tiles
-    pub getD-finished-in : from ≤ tileOf l p → tileOf l p < to → getD (finished l map kernel from to output) p (pos 0) ≡ directAt l map kernel p
-    getD-finished-in a b = by-test (le-leb from (tileOf l p) a) (lt-ltb (tileOf l p) to b)
+    -- the place lies in one of the parts
+    pub getD-finished-in : from ≤ engine .partOf l p → engine .partOf l p < to → getD (finished engine l map kernel from to output) p (pos 0) ≡ directAt l map kernel p
+    getD-finished-in a b = by-test (le-leb from (engine .partOf l p) a) (lt-ltb (engine .partOf l p) to b)
 
     -- it lies in none of them
-    pub getD-finished-out : (from ≤ tileOf l p → tileOf l p < to → ⊥)
-        → getD (finished l map kernel from to output) p (pos 0) ≡ getD output p (pos 0)
-    getD-finished-out none = go (decLt (tileOf l p) from)
+    pub getD-finished-out : (from ≤ engine .partOf l p → engine .partOf l p < to → ⊥)
+        → getD (finished engine l map kernel from to output) p (pos 0) ≡ getD output p (pos 0)
+    getD-finished-out none = go (decLt (engine .partOf l p) from)
       where
-        go : Dec (tileOf l p < from) → getD (finished l map kernel from to output) p (pos 0) ≡ getD output p (pos 0)
-        go (yes a) = by-test (lt-leb from (tileOf l p) a) refl
+        go : Dec (engine .partOf l p < from) → getD (finished engine l map kernel from to output) p (pos 0) ≡ getD output p (pos 0)
+        go (yes a) = by-test (lt-leb from (engine .partOf l p) a) refl
         go (no a) =
-            let past : tileOf l p < to → ⊥ = none (omega arith) in
-            by-test (le-leb from (tileOf l p) (omega arith)) (le-ltb (tileOf l p) to (omega arith))
+            let past : engine .partOf l p < to → ⊥ = none (omega arith) in
+            by-test (le-leb from (engine .partOf l p) (omega arith)) (le-ltb (engine .partOf l p) to (omega arith))
 
   -- ---- the whole output
 
-  pub finished-none : (from : ℕ) (output : List ℤ) → finished l map kernel from from output ≡ output
+  pub finished-none : (from : ℕ) (output : List ℤ) → finished engine l map kernel from from output ≡ output
   finished-none from output =
       ext-getD (pos 0) _ _ (length-finished from from output)
       (λ p h. getD-finished-out from from output p (omega (arith, length-finished from from output)) (λ a b. omega arith))
 
-  -- the tiles up to `middle`, then those from it on
+  -- the parts up to `middle`, then those from it on
   pub finished-then : (from middle to : ℕ) (output : List ℤ) → from ≤ middle → middle ≤ to
-      → finished l map kernel middle to (finished l map kernel from middle output) ≡ finished l map kernel from to output
+      → finished engine l map kernel middle to (finished engine l map kernel from middle output) ≡ finished engine l map kernel from to output
   finished-then from middle to output a b =
       ext-getD (pos 0) _ _ (length-finished middle to before ∙ same ∙ sym (length-finished from to output))
       (λ p h. go p (omega (arith, length-finished middle to before, same))
-      (decLt (tileOf l p) from) (decLt (tileOf l p) middle) (decLt (tileOf l p) to))
+      (decLt (engine .partOf l p) from) (decLt (engine .partOf l p) middle) (decLt (engine .partOf l p) to))
     where
       before : List ℤ
-      before = finished l map kernel from middle output
+      before = finished engine l map kernel from middle output
 
       same : length before ≡ length output
       same = length-finished from middle output
 
-      go : (p : ℕ) → p < length output → Dec (tileOf l p < from) → Dec (tileOf l p < middle) → Dec (tileOf l p < to)
-          → getD (finished l map kernel middle to before) p (pos 0) ≡ getD (finished l map kernel from to output) p (pos 0)
+      go : (p : ℕ) → p < length output → Dec (engine .partOf l p < from) → Dec (engine .partOf l p < middle) → Dec (engine .partOf l p < to)
+          → getD (finished engine l map kernel middle to before) p (pos 0) ≡ getD (finished engine l map kernel from to output) p (pos 0)
       go p h (yes i) _ _ =
           getD-finished-out middle to before p (omega (arith, same)) (λ x y. omega arith)
           ∙ getD-finished-out from middle output p h (λ x y. omega arith)
@@ -88,9 +88,9 @@ module _ (l : Layer) (map kernel : List ℤ) where
           ∙ getD-finished-out from middle output p h (λ x y. omega arith)
           ∙ sym (getD-finished-out from to output p h (λ x y. omega arith))
 
-  -- all tiles of an accepted layer: every place is a direct sum
-  pub finished-all : (output : List ℤ) → Planned l → length output ≡ l .outputs * l .rows * l .columns
-      → finished l map kernel 0 (tileTotal l) output ≡ table (length output) (directAt l map kernel)
-  finished-all output planned size =
-      table-of (pos 0) (length output) (directAt l map kernel) _ (length-finished 0 (tileTotal l) output)
-      (λ p h. getD-finished-in 0 (tileTotal l) output p h (omega arith) (tile-of-lt l (planned-tiled l planned) p (omega (arith, size))))
+  -- all parts of an accepted layer: every place is a direct sum
+  pub finished-all : Lawful engine → (output : List ℤ) → Planned l → length output ≡ outputCount l
+      → finished engine l map kernel 0 (engine .total l) output ≡ table (length output) (directAt l map kernel)
+  finished-all lawful output plan size =
+      table-of (pos 0) (length output) (directAt l map kernel) _ (length-finished 0 (engine .total l) output)
+      (λ p h. getD-finished-in 0 (engine .total l) output p h (omega arith) (lawful .covers l plan p (omega (arith, size))))

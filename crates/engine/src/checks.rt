@@ -7,13 +7,15 @@ use layer::sizes;
 use layer::values::within_peak;
 ghost use mathlib.Core.Path.{_≡_};
 ghost use Rattle.fermat.specs.Rules.{firstBroken};
+ghost use Rattle.layer.specs.Shape.{scratchWords};
+ghost use Rattle.layer.specs.Engine.{tileEngine};
 ghost use Rattle.layer.specs.Checks.{callRules, jobCode};
 ghost use Rattle.layer.specs.ChecksLaws.{Planned};
 
 // The first of the rules 10 to 16 that is broken, or 0. The lengths of output and scratch are given, not their contents.
 fn call_code(layer: Layer, map: &[i16], kernel: &[i16], output: usize, scratch: usize) -> usize
     requires { ⌜ Planned layer ⌝ }
-    ensures { λ r. ⌜ r ≡ firstBroken (callRules layer (now (map .entry)) (now (kernel .entry)) output scratch) ⌝ }
+    ensures { λ r. ⌜ r ≡ firstBroken (callRules (scratchWords layer) layer (now (map .entry)) (now (kernel .entry)) output scratch) ⌝ }
 {
     if map.len() != sizes::map_count(layer) {
         return 10;
@@ -48,7 +50,7 @@ pub(crate) fn job_code(
     output: usize,
     scratch: usize,
 ) -> usize
-    ensures { λ r. ⌜ r ≡ jobCode layer next (now (map .entry)) (now (kernel .entry)) output scratch ⌝ }
+    ensures { λ r. ⌜ r ≡ jobCode tileEngine layer next (now (map .entry)) (now (kernel .entry)) output scratch ⌝ }
 {
     let plan = plan_code(layer);
     if plan != 0 {

@@ -6,6 +6,7 @@ use fermat::residues::clear;
 use layer::shape::Layer;
 use layer::sizes;
 ghost use mathlib.Core.Path.{_≡_};
+ghost use Rattle.layer.specs.Engine.{tileEngine};
 ghost use Rattle.engine.specs.Call.{startOf, Called};
 
 pub struct Job {
@@ -41,7 +42,7 @@ impl Job {
         output: &mut [i32],
         scratch: &mut [u64],
     ) -> Progress
-        ensures { λ r. ⌜ Called self budget (now (map .entry)) (now (kernel .entry)) (now (output .entry)) (now (scratch .entry)) r (now (output .exit)) (now (scratch .exit)) ⌝ }
+        ensures { λ r. ⌜ Called tileEngine self budget (now (map .entry)) (now (kernel .entry)) (now (output .entry)) (now (scratch .entry)) r (now (output .exit)) (now (scratch .exit)) ⌝ }
     {
         let layer = self.layer;
         let next = self.next;

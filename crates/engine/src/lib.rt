@@ -4,6 +4,7 @@ use crate::job::Progress;
 use layer::planner;
 use layer::shape::Layer;
 ghost use Rattle.layer.specs.Shape.{tileTotal};
+ghost use Rattle.layer.specs.Engine.{tileEngine};
 ghost use Rattle.engine.specs.Call.{startOf, Called};
 
 mod checks;
@@ -19,7 +20,7 @@ pub fn run(
     output: &mut [i32],
     scratch: &mut [u64],
 ) -> Progress
-    ensures { λ r. ⌜ Called (startOf layer) (tileTotal layer) (now (map .entry)) (now (kernel .entry)) (now (output .entry)) (now (scratch .entry)) r (now (output .exit)) (now (scratch .exit)) ⌝ }
+    ensures { λ r. ⌜ Called tileEngine (startOf layer) (tileTotal layer) (now (map .entry)) (now (kernel .entry)) (now (output .entry)) (now (scratch .entry)) r (now (output .exit)) (now (scratch .exit)) ⌝ }
 {
     let plan = planner::plan(layer);
     let job = Job::new(layer);

@@ -6,6 +6,7 @@ ghost use mathlib.Core.Path.{_≡_};
 ghost use mathlib.Core.Bool.{true, _&&_};
 ghost use lib.Dec.{eqb};
 ghost use lib.ListN.{length};
+ghost use Rattle.layer.specs.Engine.{tileEngine};
 ghost use Rattle.layer.specs.Checks.{runCode};
 ghost use Rattle.engine.specs.Calls.{CallsMade};
 ghost use Rattle.engine.specs.ProductSums.{Paired, SumsAgree};
@@ -20,8 +21,8 @@ fn three_calls(
     output: &mut [i32],
     scratch: &mut [u64],
 ) -> bool
-    ensures { λ r. ⌜ r ≡ eqb (runCode layer (now (map .entry)) (now (kernel .entry)) (length (now (output .entry))) (length (now (scratch .entry)))) 0 ⌝ }
-    ensures { λ r. ⌜ CallsMade layer (now (map .entry)) (now (kernel .entry)) (now (output .entry)) (now (output .exit)) r ⌝ }
+    ensures { λ r. ⌜ r ≡ eqb (runCode tileEngine layer (now (map .entry)) (now (kernel .entry)) (length (now (output .entry))) (length (now (scratch .entry)))) 0 ⌝ }
+    ensures { λ r. ⌜ CallsMade tileEngine layer (now (map .entry)) (now (kernel .entry)) (now (output .entry)) (now (output .exit)) r ⌝ }
 {
     let plan = planner::plan(layer);
     let job = Job::new(layer);
@@ -45,7 +46,7 @@ pub fn both_kinds(
     v: &mut [i32],
     scratch: &mut [u64],
 ) -> bool
-    ensures { λ r. ⌜ r ≡ eqb (runCode conv (now (x .entry)) (now (kernel .entry)) (length (now (u .entry))) (length (now (scratch .entry)))) 0 && eqb (runCode tconv (now (y .entry)) (now (kernel .entry)) (length (now (v .entry))) (length (now (scratch .entry)))) 0 ⌝ }
+    ensures { λ r. ⌜ r ≡ eqb (runCode tileEngine conv (now (x .entry)) (now (kernel .entry)) (length (now (u .entry))) (length (now (scratch .entry)))) 0 && eqb (runCode tileEngine tconv (now (y .entry)) (now (kernel .entry)) (length (now (v .entry))) (length (now (scratch .entry)))) 0 ⌝ }
     ensures { λ r. ⌜ (Paired conv tconv → r ≡ true → SumsAgree conv (now (x .entry)) (now (y .entry)) (now (u .exit)) (now (v .exit))) ⌝ }
 {
     let forward = three_calls(conv, budget, x, kernel, u, scratch);

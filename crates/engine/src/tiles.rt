@@ -8,6 +8,7 @@ ghost use Prim.Native.Nat.{_-_, _≤_, _<_};
 ghost use lib.ListN.{length};
 ghost use Rattle.algebra.specs.Places.{Changed};
 ghost use Rattle.layer.specs.Shape.{scratchWords, tileTotal};
+ghost use Rattle.layer.specs.Engine.{tileEngine};
 ghost use Rattle.layer.specs.ChecksLaws.{Planned, Callable};
 ghost use Rattle.layer.specs.TileLaws.{tileChannel};
 ghost use Rattle.engine.specs.Call.{finished};
@@ -39,9 +40,9 @@ pub(crate) fn finish_tiles(
     output: &mut [i32],
     scratch: &mut [u64],
 )
-    requires { ⌜ Callable layer (now map) (now kernel) (length (now output)) (length (now scratch)) ⌝ }
+    requires { ⌜ Callable tileEngine layer (now map) (now kernel) (length (now output)) (length (now scratch)) ⌝ }
     requires { ⌜ (from ≤ to) × (to ≤ tileTotal layer) ⌝ }
-    ensures { λ _. ⌜ now (output .exit) ≡ finished layer (now (map .entry)) (now (kernel .entry)) from to (now (output .entry)) ⌝ }
+    ensures { λ _. ⌜ now (output .exit) ≡ finished tileEngine layer (now (map .entry)) (now (kernel .entry)) from to (now (output .entry)) ⌝ }
     ensures { λ _. ⌜ Changed 0 0 (scratchWords layer) (now (scratch .entry)) (now (scratch .exit)) ⌝ }
 {
     let mut tile = from;

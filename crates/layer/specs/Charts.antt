@@ -14,6 +14,7 @@ use Rattle.fermat.specs.Rules.{inside}
 use Rattle.fermat.specs.Answer.{transformCode, row, answered, transformed}
 use Rattle.layer.specs.declared.shape.Layer.{Layer}
 use Rattle.layer.specs.Shape.{outputCount, convSize, tconvSize, fullHeight, fullWidth, scratchWords, tilesAcross, tileTotal}
+use Rattle.layer.specs.Engine.{tileEngine}
 use Rattle.layer.specs.Direct.{cell, conv, tconv, fullAt, directAt, productSum}
 use Rattle.layer.specs.Load.{sizeTotal, groupTotal, greatestGroup, load, loadsFit, withinPeak}
 use Rattle.layer.specs.Checks.{cropFits, planCode, runCode}
@@ -45,7 +46,7 @@ equals (x ∷ xs) (y ∷ ys) = equal x y && equals xs ys
 
 -- what a run answers with, given an output of the right length and just enough scratch
 abbrev code : Layer → (map kernel : List ℤ) → ℕ
-code l map kernel = runCode l map kernel (outputCount l) (scratchWords l)
+code l map kernel = runCode tileEngine l map kernel (outputCount l) (scratchWords l)
 
 -- the full output of a layer against other values of its shape
 abbrev against : Layer → (map kernel others : List ℤ) → ℤ
@@ -55,7 +56,7 @@ against l map kernel others =
 pub holds : Claim → Bool
 holds (frame l map kernel outputs) = eqb (code l map kernel) 0 && equals (table (outputCount l) (directAt l map kernel)) outputs
 holds (products forward backward x y kernel value) = equal (against forward x kernel y) value && equal (against backward y kernel x) value
-holds (plan l number) = eqb (planCode l) number
+holds (plan l number) = eqb (planCode tileEngine l) number
 holds (run l map kernel number) = eqb (code l map kernel) number
 holds (tiles l total) = eqb (tileTotal l) total
 holds (entry field words place value) = eqb (getD (transformed field words) place 0) value

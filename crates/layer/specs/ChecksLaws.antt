@@ -1,4 +1,4 @@
--- What the checks say: the answer of two lists of rules, one after the other, and what the answer 0 says of a layer and of a call.
+-- What the checks of any engine say: the answer of two lists of rules, one after the other, and what the answer 0 says of a layer and of a call.
 -- It rests on fermat's laws of a list of rules.
 use mathlib.Core.Path.{_≡_, refl, sym, ap, _∙_}
 use mathlib.Core.Bool.{Bool, true, false, cond}
@@ -9,13 +9,14 @@ use native.Mathlib.Omega.{arith}
 use lib.Dec.{T, leb}
 use lib.IntN.{ℤ}
 use lib.ListN.{length}
-use borrow.Author.Tests.{leb-true, eqb-true, eq-eqb, ne-eqb}
+use borrow.Author.Tests.{leb-true, le-leb, eqb-true, eq-eqb, ne-eqb}
 use Rattle.fermat.specs.Rules.{Rule, rule, firstBroken}
 use Rattle.fermat.specs.RulesLaws.{Hold, numbered, none-broken, both-true, inside-low, inside-high}
 use Rattle.layer.specs.declared.shape.Layer.{Layer}
-use Rattle.layer.specs.Shape.{isConv, mapCount, kernelCount, outputCount, convSize, tconvSize, fullSize, fullHeight, fullWidth, scratchWords, tileTotal}
+use Rattle.layer.specs.Shape.{isConv, mapCount, kernelCount, outputCount, convSize, tconvSize, fullSize, fullHeight, fullWidth}
+use Rattle.layer.specs.Engine.{Engine}
 use Rattle.layer.specs.Load.{loadsFit, withinPeak}
-use Rattle.layer.specs.Checks.{hasOutput, cropFits, shapeRules, outputRules, callRules, jobRules, planCode, runCode, jobCode}
+use Rattle.layer.specs.Checks.{hasOutput, cropFits, shapeRules, outputRules, callRules, jobRules, planCode, runCode, jobCode, figures, planOf}
 
 -- ---- two lists of rules, one after the other: the first list's answer where it is not 0, else the second's
 
@@ -61,13 +62,13 @@ pub record InRange (l : Layer) : Type 0 where
   pub stride-high : l .stride ≤ 4
   pub padding-high : l .padding < l .side
 
-pub in-range : (l : Layer) → firstBroken (shapeRules l) ≡ 0 → InRange l
-in-range l e =
-    let (kind, (field, (inputs, (outputs, (height, (width, (side, (stride, (padding, _))))))))) = none-broken (shapeRules l) tt e in
+pub in-range : (last : ℕ) → last ≤ 5 → (l : Layer) → firstBroken (shapeRules last l) ≡ 0 → InRange l
+in-range last known l e =
+    let (kind, (field, (inputs, (outputs, (height, (width, (side, (stride, (padding, _))))))))) = none-broken (shapeRules last l) tt e in
     record {
       kind-high = inside-high 0 1 (l .kind) kind;
-      field-low = inside-low 4 5 (l .field) field;
-      field-high = inside-high 4 5 (l .field) field;
+      field-low = inside-low 4 last (l .field) field;
+      field-high = omega (arith, inside-high 4 last (l .field) field);
       inputs-low = inside-low 1 64 (l .inputs) inputs;
       inputs-high = inside-high 1 64 (l .inputs) inputs;
       outputs-low = inside-low 1 64 (l .outputs) outputs;
@@ -148,12 +149,17 @@ pub record Planned (l : Layer) : Type 0 where
   pub full-height-high : fullHeight l ≤ 2055
   pub full-width-high : fullWidth l ≤ 2055
 
-pub planned : (l : Layer) → planCode l ≡ 0 → Planned l
+-- what is asked of an engine: it takes no field but 4 and 5, and every output place lies in one of its parts
+pub record Lawful (engine : Engine) : Type 0 where
+  pub known : engine .last-field ≤ 5
+  pub covers : (l : Layer) → Planned l → (p : ℕ) → p < outputCount l → engine .partOf l p < engine .total l
+
+pub planned : {engine : Engine} → Lawful engine → (l : Layer) → planCode engine l ≡ 0 → Planned l
 unfolding planCode
-planned l e =
-    let (shape, output) = both-accept (shapeRules l) (outputRules l) tt e in
+planned {engine} lawful l e =
+    let (shape, output) = both-accept (shapeRules (engine .last-field) l) (outputRules l) tt e in
     let (height, (width, (rows, (columns, _)))) = none-broken (outputRules l) tt output in
-    let r = in-range l shape in
+    let r = in-range (engine .last-field) (lawful .known) l shape in
     record {
       shape = r;
       height-output = record { extent = height-extent l r; some = height };
@@ -168,41 +174,76 @@ planned l e =
 
 -- ---- rules 10 to 17
 
-module _ (l : Layer) (map kernel : List ℤ) (output scratch : ℕ) where
-  -- what the rules 1 to 16 give
-  pub record Callable : Type 0 where
-    pub plan : planCode l ≡ 0
-    pub map-length : length map ≡ mapCount l
-    pub kernel-length : length kernel ≡ kernelCount l
-    pub output-length : output ≡ outputCount l
-    pub scratch-low : scratchWords l ≤ scratch
-    pub peak-low : 1 ≤ l .peak
-    pub peak-high : l .peak ≤ 32767
-    pub values : withinPeak (l .peak) map ≡ true
-    pub loads : loadsFit l kernel ≡ true
+-- what the rules 1 to 16 give
+pub record Callable (engine : Engine) (l : Layer) (map kernel : List ℤ) (output scratch : ℕ) : Type 0 where
+  pub plan : Planned l
+  pub map-length : length map ≡ mapCount l
+  pub kernel-length : length kernel ≡ kernelCount l
+  pub output-length : output ≡ outputCount l
+  pub scratch-low : engine .words l ≤ scratch
+  pub peak-low : 1 ≤ l .peak
+  pub peak-high : l .peak ≤ 32767
+  pub values : withinPeak (l .peak) map ≡ true
+  pub loads : loadsFit l kernel ≡ true
 
-  pub callable : runCode l map kernel output scratch ≡ 0 → Callable
+module _ (engine : Engine) (l : Layer) (map kernel : List ℤ) (output scratch : ℕ) where
+  abbrev plan-rules : List Rule
+  plan-rules = shapeRules (engine .last-field) l ++ outputRules l
+
+  abbrev call-rules : List Rule
+  call-rules = callRules (engine .words l) l map kernel output scratch
+
+  -- an accepted run has an accepted plan, an accepted job call is an accepted run's
+  pub run-plans : runCode engine l map kernel output scratch ≡ 0 → planCode engine l ≡ 0
   unfolding planCode runCode
-  callable e =
-      let call = callRules l map kernel output scratch in
-      let (plan, rest) = both-accept (shapeRules l ++ outputRules l) call tt e in
-      let (map-length, (kernel-length, (output-length, (words, (peak, (values, (loads, _))))))) = none-broken call tt rest in
-      record {
-        plan = plan;
-        map-length = eqb-true _ _ map-length;
-        kernel-length = eqb-true _ _ kernel-length;
-        output-length = eqb-true _ _ output-length;
-        scratch-low = leb-true _ _ words;
-        peak-low = inside-low 1 32767 (l .peak) peak;
-        peak-high = inside-high 1 32767 (l .peak) peak;
-        values = values;
-        loads = loads;
-      }
+  run-plans e = both-accept plan-rules call-rules tt e .0
 
-  -- what the rules 1 to 17 give
-  pub job-callable : (next : ℕ) → jobCode l next map kernel output scratch ≡ 0 → Callable × (next ≤ tileTotal l)
+  pub job-runs : (next : ℕ) → jobCode engine l next map kernel output scratch ≡ 0
+      → (runCode engine l map kernel output scratch ≡ 0) × (next ≤ engine .total l)
   unfolding runCode jobCode
-  job-callable next e =
-      let before = shapeRules l ++ outputRules l ++ callRules l map kernel output scratch in
-      let (run, rest) = both-accept before (jobRules l next) tt e in
-      (callable run, leb-true next (tileTotal l) (none-broken (jobRules l next) tt rest .0))
+  job-runs next e =
+      let (run, rest) = both-accept (plan-rules ++ call-rules) (jobRules (engine .total l) next) tt e in
+      (run, leb-true next (engine .total l) (none-broken (jobRules (engine .total l) next) tt rest .0))
+
+  -- a job whose index is not above the total is answered as a run is
+  pub index-passes : (next : ℕ) → next ≤ engine .total l
+      → jobCode engine l next map kernel output scratch ≡ runCode engine l map kernel output scratch
+  unfolding runCode jobCode
+  index-passes next low = rw (le-leb next (engine .total l) low) (last-holds 17 (plan-rules ++ call-rules))
+    where
+      last-holds : (last : ℕ) (rules : List Rule) → firstBroken (rules ++ (rule last true ∷ [])) ≡ firstBroken rules
+      last-holds last [] = refl
+      last-holds last (rule number true ∷ rules) = last-holds last rules
+      last-holds last (rule number false ∷ rules) = refl
+
+  -- a run makes the checks 1 to 16, since no index is below 0
+  pub run-code : jobCode engine l 0 map kernel output scratch ≡ runCode engine l map kernel output scratch
+  run-code = index-passes 0 (omega arith)
+
+  -- the planner tells the total of a layer whose run is accepted
+  pub planned-total : runCode engine l map kernel output scratch ≡ 0 → planOf engine l .tiles ≡ engine .total l
+  unfolding planOf
+  planned-total e = ap (λ (code : ℕ). figures engine code l .tiles) (run-plans e)
+
+  module _ (lawful : Lawful engine) where
+    pub callable : runCode engine l map kernel output scratch ≡ 0 → Callable engine l map kernel output scratch
+    unfolding runCode
+    callable e =
+        let (plan, rest) = both-accept plan-rules call-rules tt e in
+        let (map-length, (kernel-length, (output-length, (words, (peak, (values, (loads, _))))))) = none-broken call-rules tt rest in
+        record {
+          plan = planned lawful l (run-plans e);
+          map-length = eqb-true _ _ map-length;
+          kernel-length = eqb-true _ _ kernel-length;
+          output-length = eqb-true _ _ output-length;
+          scratch-low = leb-true _ _ words;
+          peak-low = inside-low 1 32767 (l .peak) peak;
+          peak-high = inside-high 1 32767 (l .peak) peak;
+          values = values;
+          loads = loads;
+        }
+
+    -- what the rules 1 to 17 give
+    pub job-callable : (next : ℕ) → jobCode engine l next map kernel output scratch ≡ 0
+        → Callable engine l map kernel output scratch × (next ≤ engine .total l)
+    job-callable next e = let (run, low) = job-runs next e in (callable run, low)

@@ -6,6 +6,7 @@ use lib.Dec.{leb}
 use lib.IntN.{ℤ}
 use Rattle.fermat.specs.Rules.{rule, firstBroken}
 use Rattle.layer.specs.declared.shape.Layer.{Layer}
+use Rattle.layer.specs.Engine.{Engine}
 use Rattle.layer.specs.Load.{sizeTotal, loadLimit, every}
 use Rattle.layer.specs.Checks.{shapeRules, outputRules, lentRules, jobRules}
 
@@ -16,11 +17,14 @@ formerLoad l kernel m = l .peak * sizeTotal l kernel m
 unfoldable pub formerLoadsFit : Layer → List ℤ → Bool
 formerLoadsFit l kernel = every (l .outputs) (λ m. leb (formerLoad l kernel m) (loadLimit (l .field)))
 
--- what a run and a job answered
-unfoldable pub formerRunCode : Layer → (map kernel : List ℤ) → (output scratch : ℕ) → ℕ
-formerRunCode l map kernel output scratch =
-    firstBroken (shapeRules l ++ outputRules l ++ lentRules l map kernel output scratch ++ rule 16 (formerLoadsFit l kernel) ∷ [])
+-- what a run and a job of an engine answered
+module _ (engine : Engine) where
+  unfoldable pub formerRunCode : Layer → (map kernel : List ℤ) → (output scratch : ℕ) → ℕ
+  formerRunCode l map kernel output scratch =
+      firstBroken (shapeRules (engine .last-field) l ++ outputRules l ++ lentRules (engine .words l) l map kernel output scratch
+      ++ rule 16 (formerLoadsFit l kernel) ∷ [])
 
-unfoldable pub formerJobCode : Layer → ℕ → (map kernel : List ℤ) → (output scratch : ℕ) → ℕ
-formerJobCode l next map kernel output scratch =
-    firstBroken (shapeRules l ++ outputRules l ++ lentRules l map kernel output scratch ++ rule 16 (formerLoadsFit l kernel) ∷ jobRules l next)
+  unfoldable pub formerJobCode : Layer → ℕ → (map kernel : List ℤ) → (output scratch : ℕ) → ℕ
+  formerJobCode l next map kernel output scratch =
+      firstBroken (shapeRules (engine .last-field) l ++ outputRules l ++ lentRules (engine .words l) l map kernel output scratch
+      ++ rule 16 (formerLoadsFit l kernel) ∷ jobRules (engine .total l) next)

@@ -13,6 +13,7 @@ use lib.IntN.{ℤ}
 use Rattle.fermat.specs.Rules.{Rule, rule, firstBroken}
 use Rattle.fermat.specs.RulesLaws.{numbered}
 use Rattle.layer.specs.declared.shape.Layer.{Layer}
+use Rattle.layer.specs.Engine.{Engine}
 use Rattle.layer.specs.Load.{sizeTotal, load, loadLimit, loadsFit}
 use Rattle.layer.specs.Checks.{shapeRules, outputRules, lentRules, jobRules, runCode, jobCode}
 use Rattle.layer.specs.ChecksLaws.{both-accept, second-answers}
@@ -56,16 +57,15 @@ other-rule rules more number former new n entails e =
     go true new entails e = rw (entails refl) e
     go false new entails e = absurd (omega arith)
 
--- a call that was accepted is accepted
-module _ (l : Layer) (map kernel : List ℤ) (output scratch : ℕ) where
-  pub run-accepted : formerRunCode l map kernel output scratch ≡ 0 → runCode l map kernel output scratch ≡ 0
-  unfolding formerRunCode runCode
-  run-accepted =
-      other-rule (shapeRules l ++ outputRules l ++ lentRules l map kernel output scratch) [] 15 (formerLoadsFit l kernel) (loadsFit l kernel) tt
-      (still-fit l kernel)
+-- a call that was accepted is accepted, of any engine
+module _ (engine : Engine) (l : Layer) (map kernel : List ℤ) (output scratch : ℕ) where
+  abbrev earlier : List Rule
+  earlier = shapeRules (engine .last-field) l ++ outputRules l ++ lentRules (engine .words l) l map kernel output scratch
 
-  pub job-accepted : (next : ℕ) → formerJobCode l next map kernel output scratch ≡ 0 → jobCode l next map kernel output scratch ≡ 0
+  pub run-accepted : formerRunCode engine l map kernel output scratch ≡ 0 → runCode engine l map kernel output scratch ≡ 0
+  unfolding formerRunCode runCode
+  run-accepted = other-rule earlier [] 15 (formerLoadsFit l kernel) (loadsFit l kernel) tt (still-fit l kernel)
+
+  pub job-accepted : (next : ℕ) → formerJobCode engine l next map kernel output scratch ≡ 0 → jobCode engine l next map kernel output scratch ≡ 0
   unfolding formerJobCode jobCode
-  job-accepted next =
-      other-rule (shapeRules l ++ outputRules l ++ lentRules l map kernel output scratch) (jobRules l next) 15 (formerLoadsFit l kernel)
-      (loadsFit l kernel) tt (still-fit l kernel)
+  job-accepted next = other-rule earlier (jobRules (engine .total l) next) 15 (formerLoadsFit l kernel) (loadsFit l kernel) tt (still-fit l kernel)

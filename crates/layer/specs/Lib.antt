@@ -1,5 +1,6 @@
 -- definitions, in the order of the request
 pub mod Shape
+pub mod Engine
 pub mod Numbers
 pub mod Direct
 pub mod Load
@@ -13,6 +14,7 @@ pub mod ChecksLaws
 pub mod TileSizes
 pub mod CountLaws
 pub mod TileLaws
+pub mod EngineLaws
 pub mod WindowLaws
 pub mod TripleSums
 pub mod ProductLaws

@@ -11,6 +11,7 @@ use Rattle.algebra.specs.Greatest.{greatest}
 use Rattle.fermat.specs.Rules.{inside}
 use Rattle.layer.specs.declared.shape.Layer.{Layer}
 use Rattle.layer.specs.Shape.{mapCount, outputCount, convSize, tconvSize, scratchWords}
+use Rattle.layer.specs.Engine.{tileEngine}
 use Rattle.layer.specs.Load.{sizeTotal, groupTotal, greatestGroup, load, loadsFit, withinPeak}
 use Rattle.layer.specs.Checks.{cropFits, planCode, runCode}
 use Rattle.layer.specs.FormerLoad.{formerLoad, formerLoadsFit, formerRunCode}
@@ -25,8 +26,8 @@ ones l = replicate (mapCount l) (pos 1)
 
 pub holds : Case → Bool
 holds (judged l kernel answer former) =
-    eqb (runCode l (ones l) kernel (outputCount l) (scratchWords l)) answer
-    && eqb (formerRunCode l (ones l) kernel (outputCount l) (scratchWords l)) former
+    eqb (runCode tileEngine l (ones l) kernel (outputCount l) (scratchWords l)) answer
+    && eqb (formerRunCode tileEngine l (ones l) kernel (outputCount l) (scratchWords l)) former
 
 pub allHold : List Case → Bool
 allHold [] = true

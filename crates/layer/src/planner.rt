@@ -5,12 +5,13 @@ use crate::sizes;
 use fermat::rules;
 ghost use mathlib.Core.Path.{_≡_};
 ghost use Rattle.fermat.specs.Rules.{firstBroken};
+ghost use Rattle.layer.specs.Engine.{tileEngine};
 ghost use Rattle.layer.specs.Checks.{hasOutput, cropFits, shapeRules, outputRules, planCode, planOf};
 ghost use Rattle.layer.specs.ChecksLaws.{InRange, Extent};
 
 // The first of the rules 1 to 7 that is broken, or 0.
 fn shape_code(layer: Layer) -> usize
-    ensures { λ r. ⌜ r ≡ firstBroken (shapeRules layer) ⌝ }
+    ensures { λ r. ⌜ r ≡ firstBroken (shapeRules 5 layer) ⌝ }
 {
     if !rules::is_inside(0, 1, layer.kind) {
         return 1;
@@ -90,7 +91,7 @@ fn output_code(layer: Layer) -> usize
 
 // The first of the rules 1 to 9 that is broken, or 0.
 pub fn plan_code(layer: Layer) -> usize
-    ensures { λ r. ⌜ r ≡ planCode layer ⌝ }
+    ensures { λ r. ⌜ r ≡ planCode tileEngine layer ⌝ }
 {
     let code = shape_code(layer);
     if code != 0 {
@@ -101,7 +102,7 @@ pub fn plan_code(layer: Layer) -> usize
 
 // The answer to the rules 1 to 9, with E, F, the tile total and 3N²; these are 0 where the layer is refused.
 pub fn plan(layer: Layer) -> Plan
-    ensures { λ r. ⌜ r ≡ planOf layer ⌝ }
+    ensures { λ r. ⌜ r ≡ planOf tileEngine layer ⌝ }
 {
     let code = plan_code(layer);
     if code != 0 {

@@ -15,7 +15,8 @@ use Rattle.fermat.specs.OrderLaws.{place-lt}
 use Rattle.layer.specs.declared.shape.Layer.{Layer}
 use Rattle.layer.specs.Shape.{transformLength, tileOf}
 use Rattle.layer.specs.Direct.{directAt}
-use Rattle.layer.specs.ChecksLaws.{Planned, planned, Callable}
+use Rattle.layer.specs.Engine.{tileEngine}
+use Rattle.layer.specs.ChecksLaws.{Planned, Callable}
 use Rattle.layer.specs.TileLaws.{InTile, planned-tiled, to-tile, tileChannel}
 use Rattle.tile.specs.declared.origin.Origin.{Origin}
 use Rattle.tile.specs.Window.{firstRow, firstColumn, channelSum, rowInTile, columnInTile}
@@ -31,11 +32,11 @@ pub record At (l : Layer) (t : ℕ) (o : Origin) : Type 0 where
   pub column : o .column ≡ firstColumn l t
 
 -- ys is scratch after the sum, rs what comes back of its first part, and zs scratch then
-module _ (l : Layer) (map kernel : List ℤ) (output scratch t : ℕ) (callable : Callable l map kernel output scratch) (o : Origin) (at : At l t o)
+module _ (l : Layer) (map kernel : List ℤ) (output scratch t : ℕ) (callable : Callable tileEngine l map kernel output scratch) (o : Origin) (at : At l t o)
     (xs ys part rs rest : List ℕ) (added : Added l map kernel o (l .inputs) xs ys)
     (lent : (i : ℕ) → i < area l → getD part i 0 ≡ getD ys i 0) (recovered : Recovered (l .field) part rs) (size : length rs ≡ area l) where
   plan : Planned l
-  plan = planned l (callable .plan)
+  plan = callable .plan
 
   sums : Spectrum (l .field) (added .sum) 0 part
   sums = spectrum-kept refl (added .spectrum) (λ i h. rw (zero-add i) (lent i h))

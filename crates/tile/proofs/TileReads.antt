@@ -16,7 +16,8 @@ use Rattle.layer.specs.Shape.{transformLength, tileSide, gridStep, channelOf, r
 use Rattle.layer.specs.Direct.{directAt}
 use Rattle.layer.specs.Load.{planeOf, loadLimit}
 use Rattle.layer.specs.LoadLaws.{peak-bounds, load-fits, direct-load}
-use Rattle.layer.specs.ChecksLaws.{Planned, planned, Callable}
+use Rattle.layer.specs.Engine.{tileEngine}
+use Rattle.layer.specs.ChecksLaws.{Planned, Callable}
 use Rattle.layer.specs.TileSizes.{length-low}
 use Rattle.layer.specs.TileLaws.{InTile, tileChannel, tileRow, tileColumn, planned-tiled, to-tile, channel-lt}
 use Rattle.tile.specs.Window.{firstRow, firstColumn, windowAt, weightAt, channelSum, rowInTile, columnInTile}
@@ -59,9 +60,9 @@ module _ (l : Layer) (plan : Planned l) where
 
 -- ---- the sum over all map channels
 
-module _ (l : Layer) (map kernel : List ℤ) (output scratch t : ℕ) (callable : Callable l map kernel output scratch) where
+module _ (l : Layer) (map kernel : List ℤ) (output scratch t : ℕ) (callable : Callable tileEngine l map kernel output scratch) where
   plan : Planned l
-  plan = planned l (callable .plan)
+  plan = callable .plan
 
   -- the direct sums are within the load limit
   direct-fits : (p : ℕ) → p < output → natAbs (directAt l map kernel p) ≤ loadLimit (l .field)

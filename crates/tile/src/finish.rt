@@ -14,6 +14,7 @@ ghost use lib.IntN.{pos};
 ghost use lib.ListN.{length, getD};
 ghost use Rattle.algebra.specs.Places.{Written, Changed};
 ghost use Rattle.layer.specs.Shape.{tileTotal, tileOf};
+ghost use Rattle.layer.specs.Engine.{tileEngine};
 ghost use Rattle.layer.specs.Direct.{directAt};
 ghost use Rattle.layer.specs.ChecksLaws.{Callable};
 ghost use Rattle.layer.specs.TileLaws.{tileChannel};
@@ -53,7 +54,7 @@ pub fn finish_tile(
     output: &mut [i32],
     scratch: &mut [u64],
 )
-    requires { ⌜ Callable layer (now map) (now kernel) (length (now output)) (length (now scratch)) × (tile < tileTotal layer) ⌝ }
+    requires { ⌜ Callable tileEngine layer (now map) (now kernel) (length (now output)) (length (now scratch)) × (tile < tileTotal layer) ⌝ }
     requires { ⌜ (kept ≡ true → (layer .inputs ≡ 1) × KernelKept layer (now kernel) (tileChannel layer tile) 0 (now scratch)) ⌝ }
     ensures { λ _. ⌜ Written (pos 0) (λ p. tileOf layer p ≡ tile) (directAt layer (now (map .entry)) (now (kernel .entry))) (now (output .entry)) (now (output .exit)) ⌝ }
     ensures { λ _. ⌜ Changed 0 0 (3 * area layer) (now (scratch .entry)) (now (scratch .exit)) ⌝ }

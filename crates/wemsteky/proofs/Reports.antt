@@ -4,14 +4,15 @@ use mathlib.Core.List.{List}
 use Prim.Native.Nat.{ℕ}
 use lib.IntN.{ℤ}
 use Rattle.layer.specs.declared.shape.Layer.{Layer}
+use Rattle.layer.specs.Engine.{Engine}
 use Rattle.engine.specs.declared.job.Job.{Job}
 use Rattle.engine.specs.declared.job.Progress.{Progress}
 use Rattle.engine.specs.Call.{Called}
 use Rattle.wemsteky.specs.Figures.{progressFigures, Reported}
 
-pub reported : (job : Layer → Job) (budget : Layer → ℕ) {given l : Layer} → l ≡ given
+pub reported : {engine : Engine} (job : Layer → Job) (budget : Layer → ℕ) {given l : Layer} → l ≡ given
     → {map kernel output : List ℤ} {scratch : List ℕ} {progress : Progress} {output-left : List ℤ} {scratch-left : List ℕ}
-    → Called (job l) (budget l) map kernel output scratch progress output-left scratch-left
+    → Called engine (job l) (budget l) map kernel output scratch progress output-left scratch-left
     → {code : ℕ} {figures : List ℕ} → code ≡ progress .code → figures ≡ progressFigures progress
-    → Reported (job given) (budget given) map kernel output scratch code figures output-left scratch-left
+    → Reported engine (job given) (budget given) map kernel output scratch code figures output-left scratch-left
 reported job budget same {progress = progress} called e f = record { progress = progress; called = rw same at called; code-is = e; figures-are = f }

@@ -5,6 +5,7 @@ use mathlib.Core.List.{List, [], _∷_}
 use Prim.Native.Nat.{ℕ}
 use lib.IntN.{ℤ}
 use Rattle.layer.specs.declared.shape.Plan.{Plan}
+use Rattle.layer.specs.Engine.{Engine}
 use Rattle.engine.specs.declared.job.Job.{Job}
 use Rattle.engine.specs.declared.job.Progress.{Progress}
 use Rattle.engine.specs.Call.{Called}
@@ -19,10 +20,10 @@ progressFigures progress = progress .count ∷ progress .job .next ∷ cond (pro
 
 -- a call of a job whose answer comes as its code and three figures
 pub record Reported
-    (job : Job) (budget : ℕ) (map kernel output : List ℤ) (scratch : List ℕ) (code : ℕ) (figures : List ℕ) (output-left : List ℤ) (scratch-left : List ℕ)
+    (engine : Engine) (job : Job) (budget : ℕ) (map kernel output : List ℤ) (scratch : List ℕ) (code : ℕ) (figures : List ℕ) (output-left : List ℤ) (scratch-left : List ℕ)
     : Type 0
   where
     pub progress : Progress
-    pub called : Called job budget map kernel output scratch progress output-left scratch-left
+    pub called : Called engine job budget map kernel output scratch progress output-left scratch-left
     pub code-is : code ≡ progress .code
     pub figures-are : figures ≡ progressFigures progress

@@ -7,6 +7,7 @@ ghost use mathlib.Core.Path.{_≡_};
 ghost use lib.ListN.{length};
 ghost use Rattle.fermat.specs.Answer.{transformCode, transformed, inverted};
 ghost use Rattle.layer.specs.Shape.{tileTotal};
+ghost use Rattle.layer.specs.Engine.{tileEngine};
 ghost use Rattle.layer.specs.Numbers.{layerOf};
 ghost use Rattle.layer.specs.Checks.{planOf};
 ghost use Rattle.levels.specs.Answer.{levelsCode, levelsLeft};
@@ -18,8 +19,8 @@ ghost use Rattle.wemsteky.specs.Figures.{planFigures, progressFigures, R
 // E, F, the tile total and 3N²; zeros where the layer is refused.
 #[no_mangle]
 pub extern "C" fn wemsteky_plan(layer: &[usize; 14], figures: &mut [usize; 4]) -> usize
-    ensures { λ r. ⌜ r ≡ planOf (layerOf (now (layer .entry))) .code ⌝ }
-    ensures { λ _. ⌜ now (figures .exit) ≡ planFigures (planOf (layerOf (now (layer .entry)))) ⌝ }
+    ensures { λ r. ⌜ r ≡ planOf tileEngine (layerOf (now (layer .entry))) .code ⌝ }
+    ensures { λ _. ⌜ now (figures .exit) ≡ planFigures (planOf tileEngine (layerOf (now (layer .entry)))) ⌝ }
 {
     let plan = planner::plan(layer_of(layer));
     *figures = [plan.height, plan.width, plan.tiles, plan.scratch];
@@ -44,7 +45,7 @@ pub extern "C" fn wemsteky_run(
     scratch: &mut [u64],
     figures: &mut [usize; 3],
 ) -> usize
-    ensures { λ r. ⌜ Reported (startOf (layerOf (now (layer .entry)))) (tileTotal (layerOf (now (layer .entry)))) (now (map .entry)) (now (kernel .entry)) (now (output .entry)) (now (scratch .entry)) r (now (figures .exit)) (now (output .exit)) (now (scratch .exit)) ⌝ }
+    ensures { λ r. ⌜ Reported tileEngine (startOf (layerOf (now (layer .entry)))) (tileTotal (layerOf (now (layer .entry)))) (now (map .entry)) (now (kernel .entry)) (now (output .entry)) (now (scratch .entry)) r (now (figures .exit)) (now (output .exit)) (now (scratch .exit)) ⌝ }
 {
     let progress = engine::run(layer_of(layer), map, kernel, output, scratch);
     report(progress, figures)
@@ -61,7 +62,7 @@ pub extern "C" fn wemsteky_job(
     scratch: &mut [u64],
     figures: &mut [usize; 3],
 ) -> usize
-    ensures { λ r. ⌜ Reported (record { layer = layerOf (now (layer .entry)); next = next }) budget (now (map .entry)) (now (kernel .entry)) (now (output .entry)) (now (scratch .entry)) r (now (figures .exit)) (now (output .exit)) (now (scratch .exit)) ⌝ }
+    ensures { λ r. ⌜ Reported tileEngine (record { layer = layerOf (now (layer .entry)); next = next }) budget (now (map .entry)) (now (kernel .entry)) (now (output .entry)) (now (scratch .entry)) r (now (figures .exit)) (now (output .exit)) (now (scratch .exit)) ⌝ }
 {
     let job = Job {
         layer: layer_of(layer),

@@ -1,6 +1,7 @@
 -- The job's call with the plan's tiles as its budget. Outcomes says that it comes to that with the total.
 use borrow.Author.Needs.{needs}
 use denote.Ref.{now}
+use Rattle.layer.specs.Engine.{tileEngine}
 use Rattle.engine.proofs.Outcomes.{planned-budget}
 use Rattle.engine.proofs.run.Statement.{statement}
 use Rattle.engine.proofs.run.Tie as tie
@@ -24,7 +25,7 @@ returns : tie.Need-returns
 returns c =
     let call = c .before .before .before in
     let g = call .before .before .before .before .before .before .args in
-    planned-budget (g .layer) (now (g .map)) (now (g .kernel)) (now (g .output)) (now (g .scratch))
+    planned-budget tileEngine (g .layer) (now (g .map)) (now (g .kernel)) (now (g .output)) (now (g .scratch))
     (rw (call .before .before .before .before .plan .ensures, call .before .before .before .new .ensures) at (call .advance .ensures))
 
 pub run-spec : {M : Type 1} → statement M

@@ -4,13 +4,14 @@ use borrow.Author.Needs.{needs}
 use denote.Ref.{now}
 use Rattle.layer.specs.declared.shape.Plan.{Plan}
 use Rattle.layer.specs.Numbers.{layerOf}
+use Rattle.layer.specs.Engine.{tileEngine}
 use Rattle.layer.specs.Checks.{planOf}
 use Rattle.wemsteky.specs.Figures.{planFigures}
 use Rattle.wemsteky.proofs.wemsteky_plan.Statement.{statement}
 use Rattle.wemsteky.proofs.wemsteky_plan.Tie as tie
 
-planned : (c : tie.After-plan) → c .plan .result ≡ planOf (layerOf (now (c .before .before .args .layer)))
-planned c = c .plan .ensures ∙ ap planOf (c .before .layer-of .ensures)
+planned : (c : tie.After-plan) → c .plan .result ≡ planOf tileEngine (layerOf (now (c .before .before .args .layer)))
+planned c = c .plan .ensures ∙ ap (planOf tileEngine) (c .before .layer-of .ensures)
 
 layer-of-requires : tie.Need-layer-of-requires
 layer-of-requires c κs = search needs

@@ -9,8 +9,10 @@ use borrow.Author.Tests.{not-true, not-false}
 use denote.Ref.{now}
 use lib.ListN.{take, drop}
 use Rattle.layer.specs.Numbers.{layerOf}
+use Rattle.layer.specs.Engine.{tileEngine}
 use Rattle.layer.specs.Checks.{planCode}
 use Rattle.layer.specs.ChecksLaws.{planned}
+use Rattle.layer.specs.EngineLaws.{tile-lawful}
 use Rattle.bench_text.specs.Words.{wordsOf, figuresOf}
 use Rattle.bench_text.specs.Printed.{isLong, inputWords, headerReads}
 use Rattle.bench_text.specs.WritingLaws.{append-within}
@@ -50,10 +52,10 @@ module _ (c : tie.After-plan-code) where
   layer-is : c .before .layer-of .result ≡ headerLayer (input header)
   layer-is = c .before .layer-of .ensures ∙ ap layerOf (figures header valid)
 
-  code-is : c .plan-code .result ≡ planCode (headerLayer (input header))
-  code-is = c .plan-code .ensures ∙ ap planCode layer-is
+  code-is : c .plan-code .result ≡ planCode tileEngine (headerLayer (input header))
+  code-is = c .plan-code .ensures ∙ ap (planCode tileEngine) layer-is
 
-accepted : (c : tie.Else2) → planCode (headerLayer (input (header (c .before)))) ≡ 0
+accepted : (c : tie.Else2) → planCode tileEngine (headerLayer (input (header (c .before)))) ≡ 0
 accepted c = sym (code-is (c .before)) ∙ c .if2 .left
 
 -- the words after the header, of an input that is not long
@@ -122,7 +124,7 @@ put-body-requires : tie.Need-put-body-requires
 put-body-requires c κs =
     let e = c .before .before .before .before .before .before in
     let p = e .before in (
-      (planned _ (sym (p .plan-code .ensures) ∙ e .if2 .left), header p .read-header .ensures .0 .short, search needs, search needs),
+      (planned tile-lawful _ (sym (p .plan-code .ensures) ∙ e .if2 .left), header p .read-header .ensures .0 .short, search needs, search needs),
       (search needs, search needs, search needs),
     )
 

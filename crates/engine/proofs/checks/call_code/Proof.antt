@@ -7,12 +7,13 @@ use borrow.Author.Tests.{not-false, eq-eqb, ne-eqb, lt-leb, le-leb}
 use lib.ListN.{drop}
 use Rattle.fermat.specs.Rules.{Rule, firstBroken}
 use Rattle.fermat.specs.RulesLaws.{Decided, broken, kept, stop, pass, all-kept, inside-high}
+use Rattle.layer.specs.Shape.{scratchWords}
 use Rattle.layer.specs.Checks.{callRules}
 use Rattle.engine.proofs.checks.call_code.Statement.{statement}
 use Rattle.engine.proofs.checks.call_code.Tie as tie
 
 abbrev rules : tie.Start → List Rule
-rules s = callRules (s .args .layer) (s .args .map .now) (s .args .kernel .now) (s .args .output) (s .args .scratch)
+rules s = callRules (scratchWords (s .args .layer)) (s .args .layer) (s .args .map .now) (s .args .kernel .now) (s .args .output) (s .args .scratch)
 
 abbrev Left : ℕ → tie.Start → Type 0
 Left k s = Decided (firstBroken (rules s)) (drop k (rules s))

@@ -6,23 +6,26 @@ use borrow.Author.Needs.{needs}
 use borrow.Author.Tests.{lt-leb, le-leb}
 use Rattle.fermat.specs.Rules.{Rule, firstBroken}
 use Rattle.fermat.specs.RulesLaws.{Decided, stop, pass, all-kept}
+use Rattle.layer.specs.Shape.{scratchWords, tileTotal}
+use Rattle.layer.specs.Engine.{tileEngine}
 use Rattle.layer.specs.Checks.{shapeRules, outputRules, callRules, jobRules, planCode, jobCode}
 use Rattle.layer.specs.ChecksLaws.{first-answers, second-answers, Planned, planned}
+use Rattle.layer.specs.EngineLaws.{tile-lawful}
 use Rattle.engine.proofs.checks.job_code.Statement.{statement}
 use Rattle.engine.proofs.checks.job_code.Tie as tie
 
 -- the rules of the plan, of what is lent, and of the job's index
 abbrev plan-rules : tie.Start → List Rule
-plan-rules s = shapeRules (s .args .layer) ++ outputRules (s .args .layer)
+plan-rules s = shapeRules 5 (s .args .layer) ++ outputRules (s .args .layer)
 
 abbrev call-rules : tie.Start → List Rule
-call-rules s = callRules (s .args .layer) (s .args .map .now) (s .args .kernel .now) (s .args .output) (s .args .scratch)
+call-rules s = callRules (scratchWords (s .args .layer)) (s .args .layer) (s .args .map .now) (s .args .kernel .now) (s .args .output) (s .args .scratch)
 
 abbrev index-rules : tie.Start → List Rule
-index-rules s = jobRules (s .args .layer) (s .args .next)
+index-rules s = jobRules (tileTotal (s .args .layer)) (s .args .next)
 
 abbrev code : tie.Start → ℕ
-code s = jobCode (s .args .layer) (s .args .next) (s .args .map .now) (s .args .kernel .now) (s .args .output) (s .args .scratch)
+code s = jobCode tileEngine (s .args .layer) (s .args .next) (s .args .map .now) (s .args .kernel .now) (s .args .output) (s .args .scratch)
 
 -- the call, after k tests that passed
 abbrev call-1 : tie.Else1 → tie.Start
@@ -31,11 +34,11 @@ call-1 c = c .before .before
 abbrev call-2 : tie.Else2 → tie.Start
 call-2 c = call-1 (c .before .before)
 
-accepted : (c : tie.Else1) → planCode (call-1 c .args .layer) ≡ 0
+accepted : (c : tie.Else1) → planCode tileEngine (call-1 c .args .layer) ≡ 0
 accepted c = sym (c .before .plan-code .ensures) ∙ c .if1 .left
 
 shown : (c : tie.Else1) → Planned (call-1 c .args .layer)
-shown c = planned _ (accepted c)
+shown c = planned tile-lawful _ (accepted c)
 
 lent : (c : tie.Else2) → firstBroken (call-rules (call-2 c)) ≡ 0
 lent c = sym (c .before .call-code .ensures) ∙ c .if2 .left

@@ -2,6 +2,7 @@
 use mathlib.Core.Path.{sym, _∙_, subst}
 use lib.Dec.{T}
 use borrow.Author.Needs.{needs}
+use Rattle.layer.specs.EngineLaws.{tile-lawful}
 use Rattle.engine.proofs.ThreeCalls.{lists-agree}
 use Rattle.engine.proofs.pair.both_kinds.Statement.{statement}
 use Rattle.engine.proofs.pair.both_kinds.Tie as tie
@@ -27,7 +28,7 @@ returns c =
     let one = two .before .before .before .before .before .before in (
       rw (sym (one .three-calls .ensures .0) ∙ c .if1 .taken)
           (rw (one .three-calls .kept .1 .1 .1 .1 .1 .0) at (two .three-calls2 .ensures .0)),
-      λ paired done. lists-agree (one .three-calls .ensures .1) (two .three-calls2 .ensures .1) paired (c .if1 .taken) done,
+      λ paired done. lists-agree tile-lawful tile-lawful (one .three-calls .ensures .1) (two .three-calls2 .ensures .1) paired (c .if1 .taken) done,
     )
 
 same-length-4 : tie.Need-same-length-4

@@ -4,6 +4,7 @@ use Prim.Native.Nat.{ℕ}
 use borrow.Author.Needs.{needs}
 use denote.Ref.{now}
 use lib.Dec.{eqb}
+use Rattle.layer.specs.EngineLaws.{tile-lawful}
 use Rattle.engine.proofs.Outcomes.{output-length, scratch-length}
 use Rattle.engine.proofs.ThreeCalls.{last-code, three-calls}
 use Rattle.engine.proofs.pair.three_calls.Statement.{statement}
@@ -57,9 +58,9 @@ returns c =
     let g = made .before .before .before .args in
     let last = rw (made .before .plan .ensures) at (call .advance3 .ensures) in (
       ap (λ (code : ℕ). eqb code 0)
-          (last-code (g .layer) (g .budget) (now (g .map)) _ (now (g .kernel)) refl
+          (last-code tile-lawful (g .layer) (g .budget) (now (g .map)) _ (now (g .kernel)) refl
           (made .new .ensures) (first call .advance .ensures) (second call .advance2 .ensures) last),
-      three-calls (g .layer) (g .budget) (now (g .map)) _ (now (g .kernel)) refl
+      three-calls tile-lawful (g .layer) (g .budget) (now (g .map)) _ (now (g .kernel)) refl
           (made .new .ensures) (first call .advance .ensures) (second call .advance2 .ensures) last,
     )
 

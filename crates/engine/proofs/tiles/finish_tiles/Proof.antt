@@ -7,17 +7,17 @@ use denote.Ref.{now}
 use Rattle.algebra.specs.Places.{Changed}
 use Rattle.algebra.specs.PlacesLaws.{changed-nothing, changed-again}
 use Rattle.layer.specs.Shape.{scratchWords}
+use Rattle.layer.specs.Engine.{tileEngine}
 use Rattle.layer.specs.Load.{planeOf}
-use Rattle.layer.specs.ChecksLaws.{planned}
 use Rattle.layer.specs.TileLaws.{tileChannel}
 use Rattle.tile.specs.Channel.{area, KernelReady, KernelKept}
-use Rattle.engine.proofs.TilesWritten.{TilesWritten, no-tile, one-more-tile, written-finished}
+use Rattle.engine.proofs.PartsWritten.{PartsWritten, no-part, one-more-part, written-finished}
 use Rattle.engine.proofs.tiles.finish_tiles.Statement.{statement}
 use Rattle.engine.proofs.tiles.finish_tiles.Tie as tie
 
 abbrev Inv-loop : tie.InvT-loop
 Inv-loop layer from to map kernel output₀ scratch₀ tile₀ output scratch tile =
-    (from ≤ tile) × (tile ≤ to) × TilesWritten layer map kernel from tile output₀ output
+    (from ≤ tile) × (tile ≤ to) × PartsWritten tileEngine layer map kernel from tile output₀ output
     × Changed 0 0 (scratchWords layer) scratch₀ scratch
     × (from < tile → KernelKept layer kernel (tileChannel layer (tile - 1)) (layer .inputs - 1) scratch)
 
@@ -25,12 +25,12 @@ abbrev μ-loop : tie.MeasureT-loop
 μ-loop layer from to map kernel output₀ scratch₀ tile₀ output scratch tile = to - tile
 
 loop-holds : tie.Need-loop-holds Inv-loop μ-loop
-loop-holds c = (omega arith, omega arith, no-tile _ _ _ _, changed-nothing, λ some. absurd (omega arith))
+loop-holds c = (omega arith, omega arith, no-part tileEngine _ _ _ _, changed-nothing, λ some. absurd (omega arith))
 
 keeps-kernel-requires : tie.Need-keeps-kernel-requires Inv-loop μ-loop
 keeps-kernel-requires c κs =
     let s = c .before .before .before in
-    (planned _ (s .pre .0 .plan), omega (arith, s .pre .1))
+    (s .pre .0 .plan, omega (arith, s .pre .1))
 
 finish-tile-requires : tie.Need-finish-tile-requires Inv-loop μ-loop
 finish-tile-requires c κs =
@@ -61,7 +61,7 @@ loop-again c =
     let next : loop .tile + 1 - 1 ≡ loop .tile = omega arith in (
       omega arith,
       omega arith,
-      one-more-tile _ _ _ _ (loop .tile) (loop .inv .0) (loop .inv .2) (one .0),
+      one-more-part tileEngine _ _ _ _ (loop .tile) (loop .inv .0) (loop .inv .2) (one .0),
       changed-again 0 words (omega arith) (omega arith) (omega arith) (omega arith) (loop .inv .3) (one .1 .0),
       λ _. rw next (one .1 .1),
     )
@@ -77,7 +77,7 @@ returns c =
     let s = c .before .before .before in
     let loop = c .before .loop in
     let last : loop .tile ≡ s .args .to = omega arith in
-    (written-finished _ _ _ _ (s .args .to) (rw last at (loop .inv .2)), loop .inv .3)
+    (written-finished tileEngine _ _ _ _ (s .args .to) (rw last at (loop .inv .2)), loop .inv .3)
 
 pub finish-tiles-spec : {M : Type 1} → statement M
 finish-tiles-spec =

@@ -3,20 +3,22 @@ use mathlib.Core.Path.{_≡_, refl, sym, ap, _∙_}
 use Prim.Native.Nat.{ℕ, zero, suc}
 use borrow.Author.Needs.{needs}
 use Rattle.layer.specs.declared.shape.Layer.{Layer}
+use Rattle.layer.specs.Engine.{tileEngine}
 use Rattle.layer.specs.Checks.{planCode, figures, planOf}
 use Rattle.layer.specs.ChecksLaws.{Planned, planned}
+use Rattle.layer.specs.EngineLaws.{tile-lawful}
 use Rattle.layer.proofs.planner.plan.Statement.{statement}
 use Rattle.layer.proofs.planner.plan.Tie as tie
 
-refused : (code : ℕ) (l : Layer) → (code ≡ 0 → ⊥) → record { code = code; height = 0; width = 0; tiles = 0; scratch = 0 } ≡ figures code l
+refused : (code : ℕ) (l : Layer) → (code ≡ 0 → ⊥) → record { code = code; height = 0; width = 0; tiles = 0; scratch = 0 } ≡ figures tileEngine code l
 refused zero l stopped = absurd (stopped refl)
 refused (suc code) l stopped = refl
 
-accepted : (c : tie.Else1) → planCode (c .before .before .args .layer) ≡ 0
+accepted : (c : tie.Else1) → planCode tileEngine (c .before .before .args .layer) ≡ 0
 accepted c = sym (c .before .plan-code .ensures) ∙ c .if1 .left
 
 shown : (c : tie.Else1) → Planned (c .before .before .args .layer)
-shown c = planned _ (accepted c)
+shown c = planned tile-lawful _ (accepted c)
 
 plan-code-requires : tie.Need-plan-code-requires
 plan-code-requires c κs = search needs
@@ -25,7 +27,7 @@ returns : tie.Need-returns
 unfolding planOf
 returns c =
     let l = c .before .before .args .layer in
-    refused (c .before .plan-code .result) l (c .if1 .taken) ∙ ap (λ (code : ℕ). figures code l) (c .before .plan-code .ensures)
+    refused (c .before .plan-code .result) l (c .if1 .taken) ∙ ap (λ (code : ℕ). figures tileEngine code l) (c .before .plan-code .ensures)
 
 full-size-requires : tie.Need-full-size-requires
 full-size-requires c κs = shown c .height-output
@@ -44,7 +46,7 @@ unfolding planOf
 returns-2 c =
     let else = c .before .before .before .before in
     let l = else .before .before .args .layer in
-    cc (ap (λ (code : ℕ). figures code l) (accepted else))
+    cc (ap (λ (code : ℕ). figures tileEngine code l) (accepted else))
 
 pub plan-spec : {M : Type 1} → statement M
 plan-spec =

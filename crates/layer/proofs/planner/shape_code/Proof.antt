@@ -13,7 +13,7 @@ use Rattle.layer.proofs.planner.shape_code.Statement.{statement}
 use Rattle.layer.proofs.planner.shape_code.Tie as tie
 
 abbrev Left : ℕ → Layer → Type 0
-Left k l = Decided (firstBroken (shapeRules l)) (drop k (shapeRules l))
+Left k l = Decided (firstBroken (shapeRules 5 l)) (drop k (shapeRules 5 l))
 
 -- the layer, after k tests that passed
 abbrev layer-1 : tie.Else1 → Layer

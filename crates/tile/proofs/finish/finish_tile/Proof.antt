@@ -13,7 +13,7 @@ use Rattle.algebra.specs.Places.{Changed}
 use Rattle.algebra.specs.PlacesLaws.{written-as, changed-written, changed-part, changed-again}
 use Rattle.layer.specs.Shape.{tileOf}
 use Rattle.layer.specs.Direct.{directAt}
-use Rattle.layer.specs.ChecksLaws.{Planned, planned}
+use Rattle.layer.specs.ChecksLaws.{Planned}
 use Rattle.layer.specs.TileSizes.{length-high}
 use Rattle.tile.specs.Channel.{area, KernelKept}
 use Rattle.tile.specs.Stored.{halfOf, wordOf, storedAt, Storable}
@@ -24,7 +24,7 @@ use Rattle.tile.proofs.finish.finish_tile.Tie as tie
 
 -- what rules 1 to 9 give
 plan : (s : tie.Start) → Planned (s .args .layer)
-plan s = planned (s .args .layer) (s .pre .0 .0 .plan)
+plan s = s .pre .0 .0 .plan
 
 -- the sizes
 module _ (c : tie.After-points-of) where

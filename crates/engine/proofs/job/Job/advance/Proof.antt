@@ -6,7 +6,9 @@ use lib.ListN.{length}
 use borrow.Author.Needs.{needs}
 use denote.Ref.{now}
 use Rattle.layer.specs.Shape.{scratchWords, tileTotal}
-use Rattle.layer.specs.ChecksLaws.{Planned, planned, Callable, job-callable}
+use Rattle.layer.specs.Engine.{tileEngine}
+use Rattle.layer.specs.ChecksLaws.{Planned, Callable, job-callable}
+use Rattle.layer.specs.EngineLaws.{tile-lawful}
 use Rattle.engine.specs.Call.{callCode}
 use Rattle.engine.proofs.Outcomes.{refused-call, accepted-call}
 use Rattle.engine.proofs.Scratch.{changed-cleared}
@@ -18,18 +20,19 @@ module _ (c : tie.Else1) where
   abbrev start : tie.Start
   start = c .before .before .before .before
 
-  accepts : let g = start .args in callCode (g .self) (now (g .map)) (now (g .kernel)) (now (g .output)) (now (g .scratch)) ≡ 0
+  accepts : let g = start .args in callCode tileEngine (g .self) (now (g .map)) (now (g .kernel)) (length (now (g .output))) (length (now (g .scratch))) ≡ 0
   accepts = sym (c .before .job-code .ensures) ∙ c .if1 .left
 
   called : let g = start .args in
-      Callable (g .self .layer) (now (g .map)) (now (g .kernel)) (length (now (g .output))) (length (now (g .scratch)))
+      Callable tileEngine (g .self .layer) (now (g .map)) (now (g .kernel)) (length (now (g .output))) (length (now (g .scratch)))
       × (g .self .next ≤ tileTotal (g .self .layer))
   called =
       let g = start .args in
-      job-callable (g .self .layer) (now (g .map)) (now (g .kernel)) (length (now (g .output))) (length (now (g .scratch))) (g .self .next) accepts
+      job-callable tileEngine (g .self .layer) (now (g .map)) (now (g .kernel)) (length (now (g .output))) (length (now (g .scratch))) tile-lawful
+      (g .self .next) accepts
 
   plan : Planned (start .args .self .layer)
-  plan = planned (start .args .self .layer) (called .0 .plan)
+  plan = called .0 .plan
 
 -- the tiles counted are at most those left
 counted : (c : tie.After-lesser) → let job = start (c .before .before) .args .self in job .next + c .lesser .result ≤ tileTotal (job .layer)
@@ -41,7 +44,7 @@ job-code-requires c κs = search needs
 returns : tie.Need-returns
 returns c =
     let g = c .before .before .before .before .args in
-    refused-call (g .self) (g .budget) (now (g .map)) (now (g .kernel)) (now (g .output)) (now (g .scratch)) (c .before .job-code .result)
+    refused-call tileEngine (g .self) (g .budget) (now (g .map)) (now (g .kernel)) (now (g .output)) (now (g .scratch)) (c .before .job-code .result)
     (c .before .job-code .ensures) (c .if1 .taken)
 
 tile-total-requires : tie.Need-tile-total-requires
@@ -78,16 +81,16 @@ same-length-2 c = search needs
 
 returns-2 : tie.Need-returns-2
 returns-2 c =
-    let tiles = c .before .before .before .before .before .before .before .before in
-    let count = tiles .before .before .before in
+    let finished = c .before .before .before .before .before .before .before .before in
+    let count = finished .before .before .before in
     let else = count .before .before in
     let g = start else .args in
     let is = rw (count .before .tile-total .ensures) at (count .lesser .ensures) in
     let none = rw (c .before .before .before .scratch-words .ensures) at (c .before .before .clear .ensures) in
     rw (count .before .tile-total .ensures)
-    (accepted-call (g .self) (g .budget) (now (g .map)) (now (g .kernel)) (now (g .output)) (now (g .scratch)) (count .lesser .result)
-    (accepts else) is (tiles .finish-tiles .ensures .0)
-    (changed-cleared (scratchWords (g .self .layer)) (called else .0 .scratch-low) (tiles .finish-tiles .ensures .1) none))
+    (accepted-call tileEngine (g .self) (g .budget) (now (g .map)) (now (g .kernel)) (now (g .output)) (now (g .scratch)) (count .lesser .result)
+    (accepts else) is (finished .finish-tiles .ensures .0)
+    (changed-cleared (scratchWords (g .self .layer)) (called else .0 .scratch-low) (finished .finish-tiles .ensures .1) none))
 
 pub advance-spec : {M : Type 1} → statement M
 advance-spec =
