@@ -7,7 +7,7 @@ use crate::layer::{Layer, CONV};
 use crate::random::Random;
 use crate::rules::load_limit;
 
-/// The rule that is broken, and how. Rules below it stay as they are.
+/// The rule that is broken, and how. Rules earlier in the table stay as they are.
 pub struct Damage {
     pub rule: usize,
     pub name: String,
@@ -15,7 +15,7 @@ pub struct Damage {
 }
 
 impl Damage {
-    /// Damages a call that is sound, or damaged by higher rules alone.
+    /// Damages a call that is sound, or damaged by later rules alone.
     pub fn apply(&self, call: &mut Call) {
         (self.apply)(call);
     }

@@ -8,7 +8,8 @@ use crate::transform::{modulus, points};
 /// A number and the test that a call must meet to pass it. A test is made only where those before hold.
 type Rule = (usize, fn(&Call) -> bool);
 
-const RULES: [Rule; 17] = [
+/// The table. Rules are ordered by their place in it, not by their number.
+static RULES: [Rule; 17] = [
     (1, |call| call.layer.kind == 0 || call.layer.kind == 1),
     (2, |call| call.layer.field == 4 || call.layer.field == 5),
     (3, |call| inside(1, 64, call.layer.inputs) && inside(1, 64, call.layer.outputs)),
@@ -76,18 +77,34 @@ pub fn load_limit(field: usize) -> u128 {
     }
 }
 
-fn first_broken(rules: &[Rule], call: &Call) -> usize {
-    rules.iter().find(|(_, holds)| !holds(call)).map_or(0, |&(number, _)| number)
+/// The numbers of the last rules that a plan, a run and a job are held to.
+pub const LAST_OF_PLAN: usize = 9;
+pub const LAST_OF_RUN: usize = 16;
+pub const LAST_OF_JOB: usize = 17;
+
+/// The place of a number in the table.
+pub fn place(number: usize) -> usize {
+    RULES.iter().position(|&(rule, _)| rule == number).unwrap()
+}
+
+/// Whether a number is 0 or that of a rule up to the last one given.
+pub fn is_up_to(last: usize, number: usize) -> bool {
+    number == 0 || place(number) <= place(last)
+}
+
+/// The number of the first broken rule up to the last one given, or 0.
+fn first_broken(last: usize, call: &Call) -> usize {
+    RULES[..=place(last)].iter().find(|(_, holds)| !holds(call)).map_or(0, |&(number, _)| number)
 }
 
 /// What the planner returns.
 pub fn plan_number(layer: &Layer) -> usize {
-    first_broken(&RULES[..9], &Call { layer: *layer, ..Call::default() })
+    first_broken(LAST_OF_PLAN, &Call { layer: *layer, ..Call::default() })
 }
 
 /// What a job call returns. A run is the same with the index 0.
 pub fn job_number(call: &Call) -> usize {
-    first_broken(&RULES, call)
+    first_broken(LAST_OF_JOB, call)
 }
 
 /// What a transform or its inverse returns.

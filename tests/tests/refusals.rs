@@ -6,7 +6,7 @@ use wemsteky_tests::damage::{breakable_layer, damages};
 use wemsteky_tests::groups::{groups, set_group};
 use wemsteky_tests::layer::{Layer, CONV, TCONV};
 use wemsteky_tests::random::Random;
-use wemsteky_tests::rules::{load, load_limit, transform_number};
+use wemsteky_tests::rules::{is_up_to, load, load_limit, place, transform_number, LAST_OF_PLAN, LAST_OF_RUN};
 use wemsteky_tests::transform::{modulus, points};
 use wemsteky_tests::{checked, draw, engine};
 
@@ -23,8 +23,8 @@ fn number(call: &Call, buffers: &mut Buffers) -> usize {
     let plan = checked::plan(&call.layer);
     let run = checked::run(call, buffers, None).number;
     let job = checked::job(call, buffers, None).number;
-    assert_eq!(plan, if job <= 9 { job } else { 0 }, "plan of {:?}", call.layer);
-    assert_eq!(run, if job <= 16 { job } else { 0 }, "run of {:?}", call.layer);
+    assert_eq!(plan, if is_up_to(LAST_OF_PLAN, job) { job } else { 0 }, "plan of {:?}", call.layer);
+    assert_eq!(run, if is_up_to(LAST_OF_RUN, job) { job } else { 0 }, "run of {:?}", call.layer);
     job
 }
 
@@ -45,18 +45,18 @@ fn each_damage_is_answered_by_its_number() {
 }
 
 #[test]
-fn of_two_damages_the_lower_number_answers() {
+fn of_two_damages_the_rule_earlier_in_the_table_answers() {
     let damages = damages();
     for trial in 0..8 {
         let mut random = Random::new("refusals, two damages", trial);
         let (call, mut buffers) = sound(&mut random, trial);
-        for higher in &damages {
-            for lower in damages.iter().filter(|lower| lower.rule < higher.rule) {
+        for later in &damages {
+            for earlier in damages.iter().filter(|earlier| place(earlier.rule) < place(later.rule)) {
                 let mut damaged = call.clone();
-                higher.apply(&mut damaged);
-                lower.apply(&mut damaged);
+                later.apply(&mut damaged);
+                earlier.apply(&mut damaged);
                 let answer = checked::job(&damaged, &mut buffers, None);
-                assert_eq!(answer.number, lower.rule, "{}, {}", lower.name, higher.name);
+                assert_eq!(answer.number, earlier.rule, "{}, {}", earlier.name, later.name);
             }
         }
     }

@@ -1,12 +1,17 @@
 -- definitions
 pub mod Sum
 pub mod Greatest
+pub mod Every
 pub mod Congruence
 pub mod Residue
 pub mod Places
+pub mod Planes
 -- laws
 pub mod SumLaws
+pub mod DoubleSums
+pub mod TripleSums
 pub mod GreatestLaws
+pub mod EveryLaws
 pub mod PowerLaws
 pub mod CongruenceLaws
 pub mod Integer
@@ -14,3 +19,5 @@ pub mod SignLaws
 pub mod SizeLaws
 pub mod ResidueLaws
 pub mod PlacesLaws
+pub mod PlanesLaws
+pub mod EachWord

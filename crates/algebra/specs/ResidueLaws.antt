@@ -10,14 +10,8 @@ use Rattle.algebra.specs.Sum.{sum, sumZ}
 use Rattle.algebra.specs.SumLaws.{sum-none, sum-last, sumZ-none, sumZ-last}
 use Rattle.algebra.specs.Congruence.{Cong}
 use Rattle.algebra.specs.CongruenceLaws.{c-eq, c-sym, _⨟_, c-multiple, c-small}
-use Rattle.algebra.specs.Integer.{difference-sub, difference-pos, difference-negsuc}
-use Rattle.algebra.specs.Integer.{difference-eq, difference-inj, every₂, ring}
-use Rattle.algebra.specs.Residue.{residue, signed}
-
--- r represents z modulo m: z is r and a multiple of m.
-pub record Represents (m : ℕ) (z : ℤ) (r : ℕ) : Type 0 where
-  pub multiple : ℤ
-  pub equation : z ≡ pos r +ℤ multiple *ℤ pos m
+use Rattle.algebra.specs.Integer.{difference-sub, difference-pos, difference-negsuc, difference-eq, difference-inj, every₂, ring}
+use Rattle.algebra.specs.Residue.{residue, signed, Represents}
 
 -- Representatives of a sum, of a product and of a sum of many.
 pub represents-add : {m : ℕ} {x y : ℤ} {r s : ℕ} → Represents m x r → Represents m y s → Represents m (x +ℤ y) (r + s)

@@ -12,11 +12,11 @@ use lib.IntN.{ℤ}
 use lib.ListN.{length, take, drop, length-drop}
 use lib.Seq.{take-all}
 use Rattle.layer.specs.declared.shape.Layer.{Layer}
-use Rattle.bench_text.specs.Words.{everyWord, isValue, valuesOf}
-use Rattle.bench_text.specs.Lines.{unreadable}
 use Rattle.layer.specs.Shape.{mapCount, kernelCount}
+use Rattle.text.specs.Words.{everyWord, isValue, valuesOf}
+use Rattle.text.specs.Lines.{unreadable}
+use Rattle.text.specs.Reading.{BodyRead}
 use Rattle.bench_text.specs.Printed.{small, ran, bodyPrinted}
-use Rattle.bench_text.specs.Reading.{BodyRead}
 
 -- there are `count` words at least, and the first `count` of them pass the test
 abbrev enough : (List ℕ → Bool) → (count : ℕ) → List (List ℕ) → Bool

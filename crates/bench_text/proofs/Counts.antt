@@ -4,7 +4,7 @@ use mathlib.Core.Bool.{true, _&&_}
 use Prim.Native.Nat.{_≤_}
 use borrow.Author.Tests.{leb-true}
 use lib.Dec.{leb, eqb}
-use Rattle.fermat.specs.RulesLaws.{both-true}
+use Rattle.algebra.specs.EveryLaws.{both-true}
 use Rattle.layer.specs.declared.shape.Layer.{Layer}
 use Rattle.layer.specs.Shape.{mapCount, kernelCount, outputCount}
 use Rattle.bench_text.specs.Printed.{small}

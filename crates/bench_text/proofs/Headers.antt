@@ -7,13 +7,13 @@ use native.Mathlib.Decide.{decLt}
 use native.Mathlib.Omega.{arith}
 use lib.ListN.{length, take, drop}
 use lib.Seq.{take-all}
-use Rattle.fermat.specs.RulesLaws.{outcome-lent}
+use Rattle.base.specs.RulesLaws.{outcome-lent}
 use Rattle.layer.specs.declared.shape.Layer.{Layer}
 use Rattle.layer.specs.Numbers.{layerOf}
-use Rattle.layer.specs.Engine.{tileEngine}
-use Rattle.layer.specs.Checks.{planCode}
-use Rattle.bench_text.specs.Words.{figuresOf}
-use Rattle.bench_text.specs.Lines.{refusedWord, numbered, unreadable}
+use Rattle.checks.specs.Engine.{tileEngine}
+use Rattle.checks.specs.Checks.{planCode}
+use Rattle.text.specs.Words.{figuresOf}
+use Rattle.text.specs.Lines.{refusedWord, numbered, unreadable}
 use Rattle.bench_text.specs.Printed.{small, isLong, inputWords, headerReads, bodyPrinted, printed}
 
 -- the first bytes, at most n

@@ -8,19 +8,19 @@ use lib.IntN.{ℤ}
 use lib.ListN.{length}
 use Rattle.algebra.specs.Places.{table}
 use Rattle.algebra.specs.PlacesLaws.{length-table}
-use Rattle.fermat.specs.RulesLaws.{outcome-lent}
+use Rattle.base.specs.RulesLaws.{outcome-lent}
 use Rattle.layer.specs.declared.shape.Layer.{Layer}
 use Rattle.layer.specs.Shape.{outputCount, tileTotal}
-use Rattle.layer.specs.Engine.{tileEngine}
 use Rattle.layer.specs.Direct.{directAt}
-use Rattle.layer.specs.Checks.{runCode, jobCode}
-use Rattle.layer.specs.ChecksLaws.{run-code}
-use Rattle.layer.specs.EngineLaws.{tile-lawful}
+use Rattle.checks.specs.Engine.{tileEngine}
+use Rattle.checks.specs.Checks.{runCode, jobCode}
+use Rattle.checks.specs.ChecksLaws.{run-code}
+use Rattle.checks.specs.EngineLaws.{tile-lawful}
 use Rattle.engine.specs.declared.job.Progress.{Progress}
 use Rattle.engine.specs.Call.{startOf, Called}
 use Rattle.engine.specs.CallsLaws.{called-code}
 use Rattle.engine.specs.RunLaws.{run-frame}
-use Rattle.bench_text.specs.Lines.{tilesWord, refusedWord, numbered, rowsText}
+use Rattle.text.specs.Lines.{tilesWord, refusedWord, numbered, rowsText}
 use Rattle.bench_text.specs.Printed.{ran}
 
 module _ {l : Layer} {map kernel output : List ℤ} {scratch : List ℕ} {progress : Progress} {output-left : List ℤ} {scratch-left : List ℕ}

@@ -1,9 +1,2 @@
--- definitions, in the order of the request
-pub mod Words
-pub mod Lines
+-- definitions
 pub mod Printed
--- what the code promises on the way
-pub mod Reading
-pub mod Writing
--- laws
-pub mod WritingLaws

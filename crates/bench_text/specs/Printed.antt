@@ -6,15 +6,15 @@ use lib.Dec.{leb, ltb, eqb}
 use lib.IntN.{ℤ}
 use lib.ListN.{length, take, drop}
 use Rattle.algebra.specs.Places.{table}
-use Rattle.fermat.specs.Rules.{outcome}
+use Rattle.base.specs.Rules.{outcome}
 use Rattle.layer.specs.declared.shape.Layer.{Layer}
 use Rattle.layer.specs.Numbers.{layerOf}
 use Rattle.layer.specs.Shape.{mapCount, kernelCount, outputCount, tileTotal}
-use Rattle.layer.specs.Engine.{tileEngine}
 use Rattle.layer.specs.Direct.{directAt}
-use Rattle.layer.specs.Checks.{planCode, runCode}
-use Rattle.bench_text.specs.Words.{wordsOf, everyWord, isFigure, isValue, figuresOf, valuesOf}
-use Rattle.bench_text.specs.Lines.{tilesWord, refusedWord, numbered, unreadable, rowsText}
+use Rattle.checks.specs.Engine.{tileEngine}
+use Rattle.checks.specs.Checks.{planCode, runCode}
+use Rattle.text.specs.Words.{wordsOf, everyWord, isFigure, isValue, figuresOf, valuesOf}
+use Rattle.text.specs.Lines.{tilesWord, refusedWord, numbered, unreadable, rowsText}
 
 -- ---- the run, in F_4 with its 3N² = 3,072 words of scratch
 

@@ -3,19 +3,19 @@ ghost use mathlib.Core.Path.{_≡_};
 ghost use mathlib.Core.Bool.{true, false};
 ghost use Prim.Native.Nat.{_≤_};
 ghost use lib.ListN.{length, take, drop};
+ghost use Rattle.layer.specs.Planned.{Planned};
 ghost use Rattle.layer.specs.Shape.{mapCount, kernelCount, outputCount};
-ghost use Rattle.layer.specs.ChecksLaws.{Planned};
-ghost use Rattle.bench_text.specs.Words.{wordsOf};
+ghost use Rattle.text.specs.Words.{wordsOf};
+ghost use Rattle.text.specs.Reading.{BodyRead};
+ghost use Rattle.text.specs.Writing.{Appended};
 ghost use Rattle.bench_text.specs.Printed.{small, ran, bodyPrinted, printed};
-ghost use Rattle.bench_text.specs.Reading.{BodyRead};
-ghost use Rattle.bench_text.specs.Writing.{Appended};
-use crate::lines;
-use crate::words;
-use fermat::number::lesser;
+use base::number::lesser;
+use checks::planner::plan_code;
 use layer::numbers::layer_of;
-use layer::planner::plan_code;
 use layer::shape::Layer;
 use layer::sizes;
+use text::lines;
+use text::words;
 
 // Map and kernel, and no word after them.
 fn read_body(text: &[u8], at: usize, map: &mut [i16], kernel: &mut [i16]) -> bool

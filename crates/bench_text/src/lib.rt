@@ -1,5 +1,2 @@
 // The text of the bench program: reading its input, writing its lines.
 pub mod answer;
-pub mod lines;
-mod number;
-mod words;

@@ -2,7 +2,7 @@
 ghost use Prim.Native.Nat.{_≤_};
 ghost use lib.ListN.{length};
 use crate::print;
-use layer::planner::plan;
+use checks::planner::plan;
 use layer::shape::Layer;
 
 // A layer of one channel each, not cropped.

@@ -1,8 +1,8 @@
 // Lines of words and numbers.
 ghost use Prim.Native.Nat.{_<_, _≤_};
 ghost use lib.ListN.{length};
-use bench_text::lines::put_rows;
 use libc::STDOUT_FILENO;
+use text::lines::put_rows;
 
 // A word and a number, and a space.
 pub fn number(word: &[u8], n: u64) {

@@ -80,10 +80,10 @@ fn run_vector(field: usize, words: &mut [u64], number: u64, seed: u64) -> u64
     io::print_decimal(STDOUT_FILENO, number);
     io::write_all(STDOUT_FILENO, b"\n");
     print_words(words);
-    fermat::transform(field, words);
+    transform::transform(field, words);
     print_words(words);
-    fermat::inverse(field, words);
-    fermat::inverse(field, words);
+    transform::inverse(field, words);
+    transform::inverse(field, words);
     print_words(words);
     state
 }
@@ -111,8 +111,8 @@ fn set_last(words: &mut [u64], word: u64) {
 fn refuse(field: usize, words: &mut [u64], word: u64) {
     fill(words, 7);
     set_last(words, word);
-    let code = fermat::transform(field, words);
-    let again = fermat::inverse(field, words);
+    let code = transform::transform(field, words);
+    let again = transform::inverse(field, words);
     io::write_all(STDOUT_FILENO, b"refused ");
     io::print_decimal(STDOUT_FILENO, code as u64);
     io::write_all(STDOUT_FILENO, b" ");

@@ -8,12 +8,12 @@ use native.Mathlib.Omega.{arith}
 use lib.IntN.{ℤ}
 use lib.ListN.{length}
 use Rattle.algebra.specs.PlacesLaws.{length-table}
-use Rattle.fermat.specs.Rules.{outcome}
-use Rattle.fermat.specs.RulesLaws.{outcome-made, outcome-lent}
+use Rattle.base.specs.Rules.{outcome}
+use Rattle.base.specs.RulesLaws.{outcome-made, outcome-lent}
 use Rattle.layer.specs.declared.shape.Layer.{Layer}
-use Rattle.layer.specs.Engine.{Engine}
-use Rattle.layer.specs.Checks.{planCode, figures, planOf}
-use Rattle.layer.specs.ChecksLaws.{run-plans, job-runs}
+use Rattle.checks.specs.Engine.{Engine}
+use Rattle.checks.specs.Checks.{planCode, figures, planOf}
+use Rattle.checks.specs.ChecksLaws.{run-plans, job-runs}
 use Rattle.engine.specs.declared.job.Job.{Job}
 use Rattle.engine.specs.declared.job.Progress.{Progress}
 use Rattle.engine.specs.Call.{startOf, countOf, accepted, refused, finished, cleared, callCode, Called}

@@ -14,8 +14,8 @@ use borrow.Author.Tests.{leb-true, leb-false, ltb-true, ltb-false}
 use Rattle.algebra.specs.Places.{Written}
 use Rattle.algebra.specs.PlacesLaws.{table-of, written-nothing, written-again}
 use Rattle.layer.specs.declared.shape.Layer.{Layer}
-use Rattle.layer.specs.Engine.{Engine}
 use Rattle.layer.specs.Direct.{directAt}
+use Rattle.checks.specs.Engine.{Engine}
 use Rattle.engine.specs.Call.{finished}
 
 module _ (engine : Engine) (l : Layer) (map kernel : List ℤ) (from : ℕ) where

@@ -10,11 +10,12 @@ use lib.Dec.{eqb}
 use lib.IntN.{ℤ}
 use lib.ListN.{length}
 use borrow.Author.Tests.{eqb-true}
-use Rattle.fermat.specs.Rules.{outcome}
+use Rattle.base.specs.Rules.{outcome}
+use Rattle.layer.specs.Planned.{Planned}
 use Rattle.layer.specs.declared.shape.Layer.{Layer}
-use Rattle.layer.specs.Engine.{Engine}
-use Rattle.layer.specs.Checks.{runCode, planOf}
-use Rattle.layer.specs.ChecksLaws.{Planned, Lawful, index-passes, planned-total}
+use Rattle.checks.specs.Engine.{Engine, Lawful}
+use Rattle.checks.specs.Checks.{runCode, planOf}
+use Rattle.checks.specs.ChecksLaws.{index-passes, planned-total}
 use Rattle.engine.specs.declared.job.Job.{Job}
 use Rattle.engine.specs.declared.job.Progress.{Progress}
 use Rattle.engine.specs.Call.{startOf, callCode, Called}

@@ -7,11 +7,11 @@ use lib.Dec.{leb, ltb, eqb}
 use lib.IntN.{ℤ, pos}
 use lib.ListN.{length, getD}
 use Rattle.algebra.specs.Places.{table}
-use Rattle.fermat.specs.Rules.{outcome}
+use Rattle.base.specs.Rules.{outcome}
 use Rattle.layer.specs.declared.shape.Layer.{Layer}
-use Rattle.layer.specs.Engine.{Engine}
 use Rattle.layer.specs.Direct.{directAt}
-use Rattle.layer.specs.Checks.{jobCode}
+use Rattle.checks.specs.Engine.{Engine}
+use Rattle.checks.specs.Checks.{jobCode}
 use Rattle.engine.specs.declared.job.Job.{Job}
 use Rattle.engine.specs.declared.job.Progress.{Progress}
 

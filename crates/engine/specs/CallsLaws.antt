@@ -8,11 +8,12 @@ use native.Mathlib.Omega.{arith}
 use lib.IntN.{ℤ}
 use lib.ListN.{length}
 use Rattle.algebra.specs.Places.{table}
-use Rattle.fermat.specs.Rules.{outcome}
+use Rattle.base.specs.Rules.{outcome}
 use Rattle.layer.specs.declared.shape.Layer.{Layer}
-use Rattle.layer.specs.Engine.{Engine}
 use Rattle.layer.specs.Direct.{directAt}
-use Rattle.layer.specs.ChecksLaws.{Lawful, Callable, job-callable}
+use Rattle.checks.specs.Callable.{Callable}
+use Rattle.checks.specs.Engine.{Engine, Lawful}
+use Rattle.checks.specs.ChecksLaws.{job-callable}
 use Rattle.engine.specs.declared.job.Job.{Job}
 use Rattle.engine.specs.declared.job.Progress.{Progress}
 use Rattle.engine.specs.Call.{startOf, countOf, accepted, refused, finished, callCode, Called}

@@ -13,11 +13,11 @@ use lib.Seq.{ext-getD}
 use borrow.Author.Tests.{le-leb, lt-leb, lt-ltb, le-ltb}
 use Rattle.algebra.specs.Places.{table}
 use Rattle.algebra.specs.PlacesLaws.{length-table, getD-table, table-of}
+use Rattle.layer.specs.Planned.{Planned}
 use Rattle.layer.specs.declared.shape.Layer.{Layer}
 use Rattle.layer.specs.Shape.{outputCount}
-use Rattle.layer.specs.Engine.{Engine}
 use Rattle.layer.specs.Direct.{directAt}
-use Rattle.layer.specs.ChecksLaws.{Planned, Lawful}
+use Rattle.checks.specs.Engine.{Engine, Lawful}
 use Rattle.engine.specs.Call.{finished}
 
 module _ (engine : Engine) (l : Layer) (map kernel : List ℤ) where

@@ -3,9 +3,10 @@ use mathlib.Core.Path.{_≡_}
 use mathlib.Core.List.{List}
 use Prim.Native.Nat.{_+_, _*_, _-_, _%_}
 use lib.IntN.{ℤ}
+use Rattle.algebra.specs.Planes.{cell}
 use Rattle.layer.specs.declared.shape.Layer.{Layer}
 use Rattle.layer.specs.Shape.{fullHeight, fullWidth}
-use Rattle.layer.specs.Direct.{cell, productSum}
+use Rattle.layer.specs.Direct.{productSum}
 
 -- top and left are 0, and h and w are the full output size
 pub record NotCropped (l : Layer) : Type 0 where

@@ -8,16 +8,18 @@ use lib.Arith.{digits-lt, digits-div, digits-mod}
 use lib.IntN.{ℤ, pos, _*ℤ_}
 use lib.ListN.{length}
 use borrow.Author.Tests.{eq-eqb, ne-eqb}
+use Rattle.algebra.specs.Planes.{cell}
 use Rattle.algebra.specs.PlacesLaws.{getD-table}
+use Rattle.algebra.specs.TripleSums.{sum3-cong}
+use Rattle.layer.specs.PlannedLaws.{conv-room}
+use Rattle.layer.specs.Planned.{Planned}
 use Rattle.layer.specs.declared.shape.Layer.{Layer}
-use Rattle.layer.specs.Engine.{Engine}
 use Rattle.layer.specs.Shape.{fullSize, fullHeight, fullWidth}
 use Rattle.layer.specs.ShapeLaws.{same-shape}
-use Rattle.layer.specs.Direct.{cell, conv, tconv, fullAt, directAt, productSum}
+use Rattle.layer.specs.Direct.{conv, tconv, fullAt, directAt, productSum}
 use Rattle.layer.specs.FullLaws.{full-conv, full-tconv}
-use Rattle.layer.specs.ChecksLaws.{Planned, Lawful, conv-room}
-use Rattle.layer.specs.TripleSums.{sum3-cong}
 use Rattle.layer.specs.ProductLaws.{product-law}
+use Rattle.checks.specs.Engine.{Engine, Lawful}
 use Rattle.engine.specs.Calls.{JobCalls, outputOf, Reaches}
 use Rattle.engine.specs.ProductSums.{NotCropped, Paired, SumsAgree}
 use Rattle.engine.specs.CallsLaws.{calls-callable, reached}

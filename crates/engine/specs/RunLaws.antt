@@ -7,9 +7,8 @@ use lib.IntN.{ℤ}
 use lib.ListN.{length}
 use Rattle.algebra.specs.Places.{table}
 use Rattle.layer.specs.declared.shape.Layer.{Layer}
-use Rattle.layer.specs.Engine.{Engine}
 use Rattle.layer.specs.Direct.{directAt}
-use Rattle.layer.specs.ChecksLaws.{Lawful}
+use Rattle.checks.specs.Engine.{Engine, Lawful}
 use Rattle.engine.specs.declared.job.Progress.{Progress}
 use Rattle.engine.specs.Call.{startOf, Called}
 use Rattle.engine.specs.Calls.{JobCalls, outputOf, Reaches}

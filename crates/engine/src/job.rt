@@ -1,12 +1,12 @@
 // A job: a layer and the index of its next tile. It is a value; each call takes it and hands back the moved job.
-use crate::checks::job_code;
 use crate::tiles::finish_tiles;
-use fermat::number::lesser;
-use fermat::residues::clear;
+use base::number::lesser;
+use base::words::clear;
+use checks::calls::job_code;
 use layer::shape::Layer;
 use layer::sizes;
 ghost use mathlib.Core.Path.{_≡_};
-ghost use Rattle.layer.specs.Engine.{tileEngine};
+ghost use Rattle.checks.specs.Engine.{tileEngine};
 ghost use Rattle.engine.specs.Call.{startOf, Called};
 
 pub struct Job {

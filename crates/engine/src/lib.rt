@@ -1,13 +1,12 @@
 // Whole runs, and jobs that advance by a budget of tiles.
 use crate::job::Job;
 use crate::job::Progress;
-use layer::planner;
+use checks::planner;
 use layer::shape::Layer;
 ghost use Rattle.layer.specs.Shape.{tileTotal};
-ghost use Rattle.layer.specs.Engine.{tileEngine};
+ghost use Rattle.checks.specs.Engine.{tileEngine};
 ghost use Rattle.engine.specs.Call.{startOf, Called};
 
-mod checks;
 pub mod job;
 pub mod pair;
 mod tiles;

@@ -1,13 +1,13 @@
 // Two lists of calls that are made, one of each kind: for paired layers the two product sums agree, by the theorem on lists of calls.
 use crate::job::Job;
-use layer::planner;
+use checks::planner;
 use layer::shape::Layer;
 ghost use mathlib.Core.Path.{_≡_};
 ghost use mathlib.Core.Bool.{true, _&&_};
 ghost use lib.Dec.{eqb};
 ghost use lib.ListN.{length};
-ghost use Rattle.layer.specs.Engine.{tileEngine};
-ghost use Rattle.layer.specs.Checks.{runCode};
+ghost use Rattle.checks.specs.Engine.{tileEngine};
+ghost use Rattle.checks.specs.Checks.{runCode};
 ghost use Rattle.engine.specs.Calls.{CallsMade};
 ghost use Rattle.engine.specs.ProductSums.{Paired, SumsAgree};
 

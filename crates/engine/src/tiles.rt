@@ -1,16 +1,16 @@
 // Tile after tile.
+use layer::place::place_of;
 use layer::shape::Layer;
 use tile::finish::finish_tile;
-use tile::place::place_of;
 ghost use mathlib.Core.Path.{_≡_};
 ghost use mathlib.Core.Bool.{true};
 ghost use Prim.Native.Nat.{_-_, _≤_, _<_};
 ghost use lib.ListN.{length};
 ghost use Rattle.algebra.specs.Places.{Changed};
-ghost use Rattle.layer.specs.Shape.{scratchWords, tileTotal};
-ghost use Rattle.layer.specs.Engine.{tileEngine};
-ghost use Rattle.layer.specs.ChecksLaws.{Planned, Callable};
-ghost use Rattle.layer.specs.TileLaws.{tileChannel};
+ghost use Rattle.layer.specs.Planned.{Planned};
+ghost use Rattle.layer.specs.Shape.{scratchWords, tileTotal, tileChannel};
+ghost use Rattle.checks.specs.Callable.{Callable};
+ghost use Rattle.checks.specs.Engine.{tileEngine};
 ghost use Rattle.engine.specs.Call.{finished};
 
 // Whether scratch holds the transform of the kernel that the tile needs, as the tile before it left it: that was finished in the same call, it

@@ -4,7 +4,7 @@ ghost use Prim.Native.Nat.{_+_, _^_, _≤_};
 ghost use Rattle.fermat.specs.Field.{modulus, points, scale};
 
 // The levels of a transform: it makes a pass at each.
-pub(crate) fn levels_of(field: usize) -> u32
+pub fn levels_of(field: usize) -> u32
     requires { ⌜ field ≤ 5 ⌝ }
     ensures { λ r. ⌜ r ≡ field + 1 ⌝ }
 {
@@ -12,7 +12,7 @@ pub(crate) fn levels_of(field: usize) -> u32
 }
 
 // The bits below the highest one of the modulus.
-pub(crate) fn bits_of(field: usize) -> u32
+pub fn bits_of(field: usize) -> u32
     requires { ⌜ field ≤ 5 ⌝ }
     ensures { λ r. ⌜ r ≡ 2 ^ field ⌝ }
 {
@@ -35,7 +35,7 @@ pub fn modulus_of(field: usize) -> u64
 }
 
 // 1/N.
-pub(crate) fn scale_of(field: usize) -> u64
+pub fn scale_of(field: usize) -> u64
     requires { ⌜ field ≤ 5 ⌝ }
     ensures { λ r. ⌜ r ≡ scale field ⌝ }
 {

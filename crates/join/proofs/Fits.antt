@@ -7,7 +7,7 @@ use lib.Dec.{leb}
 use lib.IntN.{ℤ, pos, negsuc}
 use mir.Syntax.{w16}
 use mir.Val.{SFits}
-use Rattle.fermat.specs.RulesLaws.{both-true}
+use Rattle.algebra.specs.EveryLaws.{both-true}
 use Rattle.join.specs.Answer.{fits}
 
 pub fit-sfits : (z : ℤ) → fits z ≡ true → SFits w16 z

@@ -6,23 +6,29 @@ use lib.Dec.{eqb, leb}
 use lib.IntN.{ℤ, pos, negℤ}
 use lib.ListN.{length}
 use lib.Signed.{leZ}
-use Rattle.fermat.specs.Rules.{Rule, rule, firstBroken, inside, outcome}
+use Rattle.algebra.specs.Every.{every}
+use Rattle.base.specs.Rules.{Rule, rule, firstBroken, inside, outcome}
 use Rattle.layer.specs.declared.shape.Layer.{Layer}
 use Rattle.layer.specs.Shape.{kernelCount}
-use Rattle.layer.specs.Load.{every}
 use Rattle.join.specs.Joined.{joinedLayer, joinedAt, joinedKernel}
 
--- 26, of each layer: it is CONV with S 1 and P 0; C, M and K are in range; its kernel has M·C·K² weights
-abbrev pub filterRules : Layer → (weights : ℕ) → List Rule
-filterRules l weights =
+-- 26, of each layer: it is CONV with S 1 and P 0; C, M and K are in range
+abbrev pub figureRules : Layer → List Rule
+figureRules l =
     rule 26 (eqb (l .kind) 0)
     ∷ rule 26 (eqb (l .stride) 1)
     ∷ rule 26 (eqb (l .padding) 0)
     ∷ rule 26 (inside 1 64 (l .inputs))
     ∷ rule 26 (inside 1 64 (l .outputs))
     ∷ rule 26 (inside 1 11 (l .side))
-    ∷ rule 26 (eqb weights (kernelCount l))
     ∷ []
+
+-- 26, of its kernel: it has M·C·K² weights
+abbrev pub countRules : Layer → (weights : ℕ) → List Rule
+countRules l weights = rule 26 (eqb weights (kernelCount l)) ∷ []
+
+abbrev pub filterRules : Layer → (weights : ℕ) → List Rule
+filterRules l weights = figureRules l ++ countRules l weights
 
 -- 26, of the pair: the first's M is the second's C, and `joined` has room for the joined kernel. 27: its side is at most 11
 abbrev pub pairRules : (first second : Layer) (room : ℕ) → List Rule
@@ -49,7 +55,7 @@ weightRules first firstKernel second secondKernel = rule 28 (weightsFit first fi
 -- 26 and 27
 abbrev pub shapeRules : (first : Layer) (firstWeights : ℕ) (second : Layer) (secondWeights room : ℕ) → List Rule
 shapeRules first firstWeights second secondWeights room =
-    filterRules first firstWeights ++ filterRules second secondWeights ++ pairRules first second room
+    (filterRules first firstWeights ++ filterRules second secondWeights) ++ pairRules first second room
 
 unfoldable pub joinCode : (first : Layer) (firstKernel : List ℤ) (second : Layer) (secondKernel : List ℤ) (room : ℕ) → ℕ
 joinCode first firstKernel second secondKernel room =

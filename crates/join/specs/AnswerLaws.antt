@@ -2,31 +2,21 @@
 use mathlib.Core.Path.{_≡_}
 use mathlib.Core.Bool.{true}
 use mathlib.Core.List.{List, _++_}
-use Prim.Native.Nat.{ℕ, _+_, _<_, _≤_}
+use Prim.Native.Nat.{ℕ, _+_, _<_}
 use borrow.Author.Tests.{eqb-true}
 use lib.IntN.{ℤ}
 use lib.ListN.{length}
-use Rattle.fermat.specs.Rules.{firstBroken}
-use Rattle.fermat.specs.RulesLaws.{none-broken, inside-low, inside-high, outcome-made}
+use Rattle.algebra.specs.EveryLaws.{every-at}
+use Rattle.base.specs.Rules.{firstBroken}
+use Rattle.base.specs.RulesLaws.{none-broken, inside-low, inside-high, outcome-made, both-accept}
 use Rattle.layer.specs.declared.shape.Layer.{Layer}
 use Rattle.layer.specs.Shape.{kernelCount}
-use Rattle.layer.specs.ChecksLaws.{both-accept}
-use Rattle.layer.specs.EveryLaws.{every-at}
+use Rattle.join.specs.Joinable.{Pair, Follows, Kept, Joinable}
 use Rattle.join.specs.Joined.{joinedLayer, joinedAt, joinedKernel, fullOutput}
 use Rattle.join.specs.Answer.{filterRules, pairRules, fits, weightsFit, weightRules, shapeRules, joinCode, joinLeft}
-use Rattle.join.specs.JoinLaw.{Filter, Pair, Follows, join-law}
+use Rattle.join.specs.JoinLaw.{join-law}
 
 -- ---- one layer
-
--- what its seven rules give
-pub record Kept (l : Layer) (weights : ℕ) : Type 0 where
-  pub filter : Filter l
-  pub inputs-low : 1 ≤ l .inputs
-  pub inputs-high : l .inputs ≤ 64
-  pub outputs-low : 1 ≤ l .outputs
-  pub outputs-high : l .outputs ≤ 64
-  pub side-high : l .side ≤ 11
-  pub weights-are : weights ≡ kernelCount l
 
 pub filter-kept : (l : Layer) (weights : ℕ) → firstBroken (filterRules l weights) ≡ 0 → Kept l weights
 filter-kept l weights e =
@@ -48,23 +38,16 @@ filter-kept l weights e =
 
 -- ---- two layers
 
--- what the code asks of both: all that 26 says of them but for the length of `joined`
-pub record Joinable (first : Layer) (firstWeights : ℕ) (second : Layer) (secondWeights : ℕ) : Type 0 where
-  pub one : Kept first firstWeights
-  pub two : Kept second secondWeights
-  pub channels : first .outputs ≡ second .inputs
-
 pub joinable : (first : Layer) (firstWeights : ℕ) (second : Layer) (secondWeights room : ℕ)
     → firstBroken (shapeRules first firstWeights second secondWeights room) ≡ 0
     → Joinable first firstWeights second secondWeights × (room ≡ kernelCount (joinedLayer first second))
 joinable first firstWeights second secondWeights room e =
-    let more = filterRules second secondWeights ++ pairRules first second room in
-    let (one, rest) = both-accept (filterRules first firstWeights) more tt e in
-    let (two, pair) = both-accept (filterRules second secondWeights) (pairRules first second room) tt rest in
+    let (both, pair) = both-accept (filterRules first firstWeights ++ filterRules second secondWeights) (pairRules first second room) tt e in
+    let (first-rules, second-rules) = both-accept (filterRules first firstWeights) (filterRules second secondWeights) tt both in
     let (channels, (count, _)) = none-broken (pairRules first second room) tt pair in (
       record {
-        one = filter-kept first firstWeights one;
-        two = filter-kept second secondWeights two;
+        first-kept = filter-kept first firstWeights first-rules;
+        second-kept = filter-kept second secondWeights second-rules;
         channels = eqb-true _ _ channels;
       },
       eqb-true _ _ count,
@@ -102,6 +85,6 @@ pub join-accepted : (first : Layer) (firstKernel : List ℤ) (second : Layer) (s
 join-accepted first firstKernel second secondKernel joined e follows map =
     let kept = accepted first firstKernel second secondKernel (length joined) e .0 in
     let (both, _) = joinable first (length firstKernel) second (length secondKernel) (length joined) kept in
-    let pair : Pair first second = record { one = both .one .filter; two = both .two .filter; channels = both .channels } in
+    let pair : Pair first second = record { first-filter = both .first-kept .filter; second-filter = both .second-kept .filter; channels = both .channels } in
     let written : joinLeft first firstKernel second secondKernel joined ≡ joinedKernel first firstKernel second secondKernel = outcome-made _ _ e in
     rw written (join-law pair follows map firstKernel secondKernel)

@@ -7,7 +7,7 @@ use lib.IntN.{ℤ, pos, negℤ}
 use lib.ListN.{length}
 use Rattle.algebra.specs.Sum.{sumZ}
 use Rattle.algebra.specs.Places.{table}
-use Rattle.fermat.specs.Rules.{inside}
+use Rattle.base.specs.Rules.{inside}
 use Rattle.layer.specs.declared.shape.Layer.{Layer}
 use Rattle.layer.specs.Numbers.{layerOf}
 use Rattle.join.specs.Joined.{joinedWeight, joinedAt}
@@ -34,8 +34,8 @@ Hold (case first firstKernel second secondKernel joined code ∷ cases) =
 abbrev minus : ℕ → ℤ
 minus n = negℤ (pos n)
 
-abbrev one : ℤ → List ℤ
-one z = z ∷ []
+abbrev single : ℤ → List ℤ
+single z = z ∷ []
 
 abbrev zeros : ℕ → List ℤ
 zeros n = table n (λ _. pos 0)
@@ -49,17 +49,17 @@ cases =
     ∷ case (filter 2 1 1) (pos 2 ∷ pos 3 ∷ []) (filter 1 2 1) (pos 5 ∷ minus 7 ∷ []) (pos 10 ∷ pos 15 ∷ minus 14 ∷ minus 21 ∷ []) 0
     ∷ case (filter 1 2 1) (pos 2 ∷ pos 3 ∷ []) (filter 2 2 1) (pos 5 ∷ pos 7 ∷ minus 11 ∷ pos 13 ∷ []) (pos 31 ∷ pos 17 ∷ []) 0
     -- 32,767 and −32,768 fit, one beyond does not
-    ∷ case (filter 1 1 1) (one (pos 4681)) (filter 1 1 1) (one (pos 7)) (one (pos 32767)) 0
-    ∷ case (filter 1 1 1) (one (pos 16384)) (filter 1 1 1) (one (minus 2)) (one (minus 32768)) 0
-    ∷ case (filter 1 1 1) (one (pos 16384)) (filter 1 1 1) (one (pos 2)) (one (pos 9)) 28
-    ∷ case (filter 1 1 1) (one (pos 10923)) (filter 1 1 1) (one (minus 3)) (one (pos 9)) 28
+    ∷ case (filter 1 1 1) (single (pos 4681)) (filter 1 1 1) (single (pos 7)) (single (pos 32767)) 0
+    ∷ case (filter 1 1 1) (single (pos 16384)) (filter 1 1 1) (single (minus 2)) (single (minus 32768)) 0
+    ∷ case (filter 1 1 1) (single (pos 16384)) (filter 1 1 1) (single (pos 2)) (single (pos 9)) 28
+    ∷ case (filter 1 1 1) (single (pos 10923)) (filter 1 1 1) (single (minus 3)) (single (pos 9)) 28
     -- a side of 12; other room than the joined kernel needs comes first
     ∷ case (filter 1 1 6) (zeros 36) (filter 1 1 7) (zeros 49) (zeros 144) 27
     ∷ case (filter 1 1 6) (zeros 36) (filter 1 1 7) (zeros 49) (zeros 121) 26
     -- stride 2, channels that do not meet, a channel too many
-    ∷ case (filter 1 1 1) (one (pos 1)) (strided 2 1 1 1) (one (pos 1)) (one (pos 9)) 26
-    ∷ case (filter 1 1 1) (one (pos 1)) (filter 2 1 1) (pos 1 ∷ pos 1 ∷ []) (one (pos 9)) 26
-    ∷ case (filter 65 1 1) (zeros 65) (filter 1 1 1) (one (pos 1)) (zeros 65) 26
+    ∷ case (filter 1 1 1) (single (pos 1)) (strided 2 1 1 1) (single (pos 1)) (single (pos 9)) 26
+    ∷ case (filter 1 1 1) (single (pos 1)) (filter 2 1 1) (pos 1 ∷ pos 1 ∷ []) (single (pos 9)) 26
+    ∷ case (filter 65 1 1) (zeros 65) (filter 1 1 1) (single (pos 1)) (zeros 65) 26
     ∷ []
 
 pub cases-hold : Hold cases

@@ -6,39 +6,16 @@ use Prim.Native.Nat.{ℕ, _+_, _-_, _<_, _≤_}
 use native.Mathlib.Omega.{arith}
 use borrow.Author.Tests.{eq-eqb}
 use lib.IntN.{ℤ}
+use Rattle.algebra.specs.Planes.{stacked}
 use Rattle.algebra.specs.PlacesLaws.{table-same}
+use Rattle.algebra.specs.PlanesLaws.{stacked-same}
 use Rattle.layer.specs.declared.shape.Layer.{Layer}
 use Rattle.layer.specs.Shape.{convSize, fullSize, fullHeight, fullWidth}
 use Rattle.layer.specs.Direct.{conv, fullAt}
 use Rattle.layer.specs.FullLaws.{full-conv}
-use Rattle.join.specs.Joined.{stacked, joinedLayer, joinedAt, joinedKernel, fullOutput}
-use Rattle.join.specs.StackedLaws.{stacked-same}
+use Rattle.join.specs.Joinable.{Filter, Pair, Along, Follows}
+use Rattle.join.specs.Joined.{joinedLayer, joinedAt, joinedKernel, fullOutput}
 use Rattle.join.specs.JoinedLaws.{conv-joined}
-
--- ---- two filters, and their maps
-
--- CONV with S 1 and P 0
-pub record Filter (l : Layer) : Type 0 where
-  pub conv-kind : l .kind ≡ 0
-  pub stride-one : l .stride ≡ 1
-  pub unpadded : l .padding ≡ 0
-  pub side-low : 1 ≤ l .side
-
--- the channels that come out of the first go into the second
-pub record Pair (first second : Layer) : Type 0 where
-  pub one : Filter first
-  pub two : Filter second
-  pub channels : first .outputs ≡ second .inputs
-
--- along one side: the second's map is as long as the first's full output, and each kernel fits in its map, as rule 8 asks
-pub record Along (first second : Layer) (size middle : ℕ) : Type 0 where
-  pub is : middle ≡ fullSize first size
-  pub first-fits : first .side ≤ size
-  pub second-fits : second .side ≤ middle
-
-pub record Follows (first second : Layer) : Type 0 where
-  pub down : Along first second (first .height) (second .height)
-  pub across : Along first second (first .width) (second .width)
 
 -- ---- one filter
 
@@ -60,18 +37,18 @@ module _ (l : Layer) (filter : Filter l) where
 module _ {first second : Layer} (pair : Pair first second) where
   joined-filter : Filter (joinedLayer first second)
   joined-filter = record {
-    conv-kind = pair .one .conv-kind;
-    stride-one = pair .one .stride-one;
-    unpadded = pair .one .unpadded;
-    side-low = omega (arith, pair .one .side-low, pair .two .side-low);
+    conv-kind = pair .first-filter .conv-kind;
+    stride-one = pair .first-filter .stride-one;
+    unpadded = pair .first-filter .unpadded;
+    side-low = omega (arith, pair .first-filter .side-low, pair .second-filter .side-low);
   }
 
   module _ {size middle : ℕ} (along : Along first second size middle) where
     middle-count : middle ≡ size - first .side + 1
-    middle-count = along .is ∙ filter-count first (pair .one) size (along .first-fits)
+    middle-count = along .is ∙ filter-count first (pair .first-filter) size (along .first-fits)
 
     outputs-count : fullSize second middle ≡ middle - second .side + 1
-    outputs-count = filter-count second (pair .two) middle (along .second-fits)
+    outputs-count = filter-count second (pair .second-filter) middle (along .second-fits)
 
     joined-fits : first .side + second .side - 1 ≤ size
     joined-fits = omega (arith, middle-count, along .first-fits, along .second-fits)
@@ -79,14 +56,14 @@ module _ {first second : Layer} (pair : Pair first second) where
     same-size : fullSize (joinedLayer first second) size ≡ fullSize second middle
     same-size =
         filter-count (joinedLayer first second) joined-filter size joined-fits
-        ∙ omega (arith, middle-count, outputs-count, along .first-fits, along .second-fits, pair .two .side-low)
+        ∙ omega (arith, middle-count, outputs-count, along .first-fits, along .second-fits, pair .second-filter .side-low)
 
     some-outputs : 0 < fullSize second middle
     some-outputs = omega (arith, outputs-count)
 
     window-inside : (e : ℕ) → e < fullSize second middle → e + (first .side + second .side - 1) ≤ size
     window-inside e inside =
-        omega (arith, middle-count, outputs-count, along .first-fits, along .second-fits, pair .two .side-low)
+        omega (arith, middle-count, outputs-count, along .first-fits, along .second-fits, pair .second-filter .side-low)
 
   module _ (follows : Follows first second) (map firstKernel secondKernel : List ℤ) where
     abbrev middle : List ℤ
@@ -104,16 +81,16 @@ module _ {first second : Layer} (pair : Pair first second) where
 
     middle-is : middle ≡ convolved
     middle-is =
-        rw (filter-size first (pair .one) (first .height), filter-size first (pair .one) (first .width))
-        (table-same _ (λ p l. filter-conv first (pair .one) map firstKernel _ _ _))
+        rw (filter-size first (pair .first-filter) (first .height), filter-size first (pair .first-filter) (first .width))
+        (table-same _ (λ p l. filter-conv first (pair .first-filter) map firstKernel _ _ _))
 
     second-over-middle : (m e f : ℕ) → fullAt second middle secondKernel m e f
         ≡ conv (first .outputs) (convSize (first .height) (first .side) 1 0) (convSize (first .width) (first .side) 1 0) (second .side) 1 0
         convolved secondKernel m e f
     second-over-middle m e f =
-        let down = follows .down .is ∙ filter-size first (pair .one) (first .height) in
-        let across = follows .across .is ∙ filter-size first (pair .one) (first .width) in
-        filter-conv second (pair .two) middle secondKernel m e f ∙ rw (← (pair .channels), down, across, middle-is)
+        let down = follows .down .is ∙ filter-size first (pair .first-filter) (first .height) in
+        let across = follows .across .is ∙ filter-size first (pair .first-filter) (first .width) in
+        filter-conv second (pair .second-filter) middle secondKernel m e f ∙ rw (← (pair .channels), down, across, middle-is)
 
     -- one output
     pub join-output : (m e f : ℕ) → m < second .outputs → e < fullHeight second → f < fullWidth second
@@ -122,7 +99,7 @@ module _ {first second : Layer} (pair : Pair first second) where
     join-output m e f channel row column =
         filter-conv (joinedLayer first second) joined-filter map _ m e f
         ∙ conv-joined (first .side) (second .side) (first .inputs) (first .outputs) (second .outputs) (first .height) (first .width)
-        map firstKernel secondKernel (pair .one .side-low) (pair .two .side-low) m e f channel
+        map firstKernel secondKernel (pair .first-filter .side-low) (pair .second-filter .side-low) m e f channel
         (window-inside (follows .down) e row) (window-inside (follows .across) f column)
         ∙ sym (second-over-middle m e f)
 

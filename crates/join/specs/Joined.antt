@@ -2,11 +2,12 @@
 use mathlib.Core.List.{List}
 use Prim.Native.Nat.{ℕ, _+_, _*_, _-_, _/_, _%_}
 use lib.IntN.{ℤ, _*ℤ_}
+use Rattle.algebra.specs.Planes.{cell, stacked, stackedAt}
 use Rattle.algebra.specs.Sum.{sumZ}
 use Rattle.algebra.specs.Places.{table}
 use Rattle.layer.specs.declared.shape.Layer.{Layer}
 use Rattle.layer.specs.Shape.{kernelCount, fullHeight, fullWidth}
-use Rattle.layer.specs.Direct.{cell, shifted, fullAt}
+use Rattle.layer.specs.Direct.{shifted, fullAt}
 
 -- ---- one weight
 
@@ -16,15 +17,6 @@ use Rattle.layer.specs.Direct.{cell, shifted, fullAt}
 unfoldable pub joinedWeight : (C N K L : ℕ) (first second : List ℤ) (m c a b : ℕ) → ℤ
 joinedWeight C N K L first second m c a b =
     sumZ N (λ n. sumZ K (λ i. sumZ K (λ j. cell K K first (n * C + c) i j *ℤ shifted L L second (m * N + n) i a j b)))
-
--- ---- planes in a row
-
--- The value at the flat place p of planes of A rows of B values.
-abbrev pub stackedAt : (A B : ℕ) → (ℕ → ℕ → ℕ → ℤ) → ℕ → ℤ
-stackedAt A B value p = value (p / (A * B)) (p % (A * B) / B) (p % (A * B) % B)
-
-abbrev pub stacked : (planes A B : ℕ) → (ℕ → ℕ → ℕ → ℤ) → List ℤ
-stacked planes A B value = table (planes * (A * B)) (stackedAt A B value)
 
 -- ---- the joined layer and its kernel
 

@@ -8,16 +8,17 @@ use Prim.Native.Nat.{ℕ, _+_, _*_, _-_, _/_, _%_, _<_, _≤_}
 use native.Mathlib.Omega.{arith}
 use lib.Arith.{digits-lt, digits-div, digits-mod}
 use lib.IntN.{ℤ, _*ℤ_}
+use Rattle.algebra.specs.Planes.{cell, stacked}
 use Rattle.algebra.specs.Sum.{sumZ}
 use Rattle.algebra.specs.SumLaws.{integers, sum-cong, sum-swap}
 use Rattle.algebra.specs.Integer.{sumZ-mul, sumZ-mul-right, difference-eq, every₃, ring}
+use Rattle.algebra.specs.PlanesLaws.{cell-stacked}
+use Rattle.algebra.specs.DoubleSums.{sum2, sum2-cong, sum2-mul, sum2-mul-right, sum2-inside, sum2-swap}
 use Rattle.layer.specs.Shape.{convSize}
 use Rattle.layer.specs.ShapeLaws.{window-fits}
-use Rattle.layer.specs.Direct.{within, cell, shifted, conv}
+use Rattle.layer.specs.Direct.{within, shifted, conv}
 use Rattle.layer.specs.WindowLaws.{Matching, exchange-product, within-is, within-yes, when-yes}
-use Rattle.join.specs.Joined.{joinedWeight, stacked}
-use Rattle.join.specs.StackedLaws.{cell-stacked}
-use Rattle.join.specs.DoubleSums.{sum2, sum2-cong, sum2-mul, sum2-mul-right, sum2-inside, sum2-swap}
+use Rattle.join.specs.Joined.{joinedWeight}
 
 -- place a of the joined kernel and place p of the second one, where place i of the first and p add up to a
 adding : (i L side : ℕ) → i + L ≤ side → Matching side L (λ a. within i L a) (λ a. a - i) (λ p. true) (λ p. p + i)

@@ -1,10 +1,9 @@
 -- definitions
 pub mod Joined
+pub mod Joinable
 pub mod Answer
 pub mod Products
 -- laws
-pub mod DoubleSums
-pub mod StackedLaws
 pub mod JoinedLaws
 pub mod JoinLaw
 pub mod AnswerLaws

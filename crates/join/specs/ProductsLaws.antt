@@ -5,9 +5,10 @@ use Prim.Native.Nat.{ℕ, _+_, _*_, _-_}
 use native.Mathlib.Omega.{arith}
 use lib.IntN.{ℤ, pos, _*ℤ_}
 use lib.ListN.{getD}
+use Rattle.algebra.specs.Planes.{cell}
 use Rattle.algebra.specs.Sum.{sumZ}
 use Rattle.algebra.specs.SumLaws.{integers, sum-cong}
-use Rattle.layer.specs.Direct.{when, within, cell, shifted}
+use Rattle.layer.specs.Direct.{when, within, shifted}
 use Rattle.layer.specs.WindowLaws.{mul-when, sum-when}
 use Rattle.join.specs.Products.{planeOf, productAt, rowSum, rowAt, planeSum}
 

@@ -1,44 +1,32 @@
 // The checks of `join`, in the order of its answers: 26 of each layer, 26 and 27 of the two, 28 of all weights.
 use crate::places::joined_layer;
 use crate::weight::weight_at;
-use fermat::rules;
+use base::rules;
 use layer::shape::Layer;
 use layer::sizes;
 ghost use mathlib.Core.Path.{_≡_};
 ghost use Prim.Native.Nat.{_≤_};
 ghost use lib.ListN.{length};
-ghost use Rattle.fermat.specs.Rules.{firstBroken};
+ghost use Rattle.base.specs.Rules.{firstBroken};
 ghost use Rattle.layer.specs.Shape.{kernelCount};
+ghost use Rattle.join.specs.Joinable.{Joinable};
 ghost use Rattle.join.specs.Joined.{joinedLayer};
 ghost use Rattle.join.specs.Answer.{filterRules, pairRules, shapeRules, fits, weightsFit, joinCode};
-ghost use Rattle.join.specs.AnswerLaws.{Joinable};
 
 // 26 where a layer is not CONV with S 1 and P 0, a figure is out of range, or its weights are not as many as its figures say; else 0.
 fn filter_code(layer: Layer, weights: usize) -> usize
     ensures { λ r. ⌜ r ≡ firstBroken (filterRules layer weights) ⌝ }
 {
-    if layer.kind != 0 {
-        return 26;
+    let code = rules::next(0, 26, layer.kind == 0);
+    let code = rules::next(code, 26, layer.stride == 1);
+    let code = rules::next(code, 26, layer.padding == 0);
+    let code = rules::next(code, 26, rules::is_inside(1, 64, layer.inputs));
+    let code = rules::next(code, 26, rules::is_inside(1, 64, layer.outputs));
+    let code = rules::next(code, 26, rules::is_inside(1, 11, layer.side));
+    if code != 0 {
+        return code;
     }
-    if layer.stride != 1 {
-        return 26;
-    }
-    if layer.padding != 0 {
-        return 26;
-    }
-    if !rules::is_inside(1, 64, layer.inputs) {
-        return 26;
-    }
-    if !rules::is_inside(1, 64, layer.outputs) {
-        return 26;
-    }
-    if !rules::is_inside(1, 11, layer.side) {
-        return 26;
-    }
-    if weights != sizes::kernel_count(layer) {
-        return 26;
-    }
-    0
+    rules::next(0, 26, weights == sizes::kernel_count(layer))
 }
 
 // 26 where the channels between the two differ or `joined` has other room than the joined kernel needs, 27 where its side exceeds 11; else 0.
@@ -46,17 +34,10 @@ fn pair_code(first: Layer, second: Layer, room: usize) -> usize
     requires { ⌜ (first .inputs ≤ 64) × (second .outputs ≤ 64) × (1 ≤ first .side) × (first .side ≤ 11) × (second .side ≤ 11) ⌝ }
     ensures { λ r. ⌜ r ≡ firstBroken (pairRules first second room) ⌝ }
 {
-    if first.outputs != second.inputs {
-        return 26;
-    }
     let joined = joined_layer(first, second);
-    if room != sizes::kernel_count(joined) {
-        return 26;
-    }
-    if joined.side > 11 {
-        return 27;
-    }
-    0
+    let code = rules::next(0, 26, first.outputs == second.inputs);
+    let code = rules::next(code, 26, room == sizes::kernel_count(joined));
+    rules::next(code, 27, joined.side <= 11)
 }
 
 // The first of 26 and 27 that is broken, or 0.
@@ -69,13 +50,10 @@ fn shape_code(
 ) -> usize
     ensures { λ r. ⌜ r ≡ firstBroken (shapeRules first «first_weights» second «second_weights» room) ⌝ }
 {
-    let one = filter_code(first, first_weights);
-    if one != 0 {
-        return one;
-    }
-    let two = filter_code(second, second_weights);
-    if two != 0 {
-        return two;
+    let code = filter_code(first, first_weights);
+    let code = rules::first_code(code, filter_code(second, second_weights));
+    if code != 0 {
+        return code;
     }
     pair_code(first, second, room)
 }
@@ -124,8 +102,9 @@ pub(crate) fn join_code(
     if code != 0 {
         return code;
     }
-    if !weights_fit(first, first_kernel, second, second_kernel, room) {
-        return 28;
-    }
-    0
+    rules::next(
+        0,
+        28,
+        weights_fit(first, first_kernel, second, second_kernel, room),
+    )
 }

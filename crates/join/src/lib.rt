@@ -5,9 +5,9 @@ ghost use mathlib.Core.Path.{_≡_};
 ghost use mathlib.Core.Bool.{true};
 ghost use lib.ListN.{length};
 ghost use Rattle.layer.specs.Shape.{kernelCount};
+ghost use Rattle.join.specs.Joinable.{Joinable};
 ghost use Rattle.join.specs.Joined.{joinedLayer, joinedKernel};
 ghost use Rattle.join.specs.Answer.{weightsFit, joinCode, joinLeft};
-ghost use Rattle.join.specs.AnswerLaws.{Joinable};
 
 mod checks;
 mod places;

@@ -10,8 +10,8 @@ ghost use Prim.Native.Nat.{_+_, _*_, _^_, _<_, _≤_};
 ghost use lib.IntN.{natAbs};
 ghost use lib.ListN.{length};
 ghost use Rattle.layer.specs.Shape.{kernelCount};
+ghost use Rattle.join.specs.Joinable.{Joinable};
 ghost use Rattle.join.specs.Joined.{joinedLayer, joinedAt};
-ghost use Rattle.join.specs.AnswerLaws.{Joinable};
 ghost use Rattle.join.specs.Products.{middleSum};
 
 // What goes through the middle channel n.

@@ -1,5 +1,0 @@
-mod Tests
-mod Peaks
-mod Apart
-mod GroupSums
-mod KernelPlanes

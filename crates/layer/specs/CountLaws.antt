@@ -2,10 +2,10 @@
 -- `ChecksLaws`.
 use Prim.Native.Nat.{_*_, _≤_}
 use native.Mathlib.Nat.{mul-le-mul}
+use Rattle.layer.specs.Planned.{InRange, Planned}
 use Rattle.layer.specs.declared.shape.Layer.{Layer}
 use Rattle.layer.specs.Shape.{mapCount, kernelCount, outputCount}
-use Rattle.layer.specs.ChecksLaws.{InRange, Planned}
-use Rattle.layer.specs.TileSizes.{rows-wanted, columns-wanted}
+use Rattle.layer.specs.TileSizeLaws.{rows-wanted, columns-wanted}
 
 module _ (l : Layer) (r : InRange l) where
   pub map-rows-high : l .inputs * l .height ≤ 32768

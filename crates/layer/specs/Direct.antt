@@ -5,7 +5,7 @@ use mathlib.Core.List.{List}
 use Prim.Native.Nat.{ℕ, _+_, _*_, _-_}
 use lib.Dec.{leb, ltb}
 use lib.IntN.{ℤ, pos, _*ℤ_}
-use lib.ListN.{getD}
+use Rattle.algebra.specs.Planes.{cell}
 use Rattle.algebra.specs.Sum.{sumZ}
 use Rattle.layer.specs.declared.shape.Layer.{Layer}
 use Rattle.layer.specs.Shape.{isConv, channelOf, rowOf, columnOf}
@@ -17,10 +17,6 @@ when test z = cond test z (pos 0)
 -- u − p is from 0 to n − 1
 abbrev pub within : (p n u : ℕ) → Bool
 within p n u = leb p u && ltb (u - p) n
-
--- the value at row i, column j of plane k, where a plane is A rows of B
-abbrev pub cell : (A B : ℕ) → List ℤ → (k i j : ℕ) → ℤ
-cell A B values k i j = getD values ((k * A + i) * B + j) (pos 0)
 
 -- the value at row u − p, column v − q of plane k; 0 outside the plane
 abbrev pub shifted : (A B : ℕ) → List ℤ → (k p u q v : ℕ) → ℤ
@@ -35,6 +31,10 @@ conv C H W K S P map kernel m e f =
 unfoldable pub tconv : (C M H W K S P : ℕ) (map kernel : List ℤ) (m i j : ℕ) → ℤ
 tconv C M H W K S P map kernel m i j =
     sumZ C (λ c. sumZ H (λ e. sumZ W (λ f. cell H W map c e f *ℤ shifted K K kernel (c * M + m) (e * S) (i + P) (f * S) (j + P))))
+
+-- the kernel's plane from map channel c to output channel m: [m][c] in CONV, [c][m] in TCONV
+abbrev pub planeOf : Layer → (m c : ℕ) → ℕ
+planeOf l m c = cond (isConv l) (m * l .inputs + c) (c * l .outputs + m)
 
 -- the full output of a layer at channel m, row i, column j
 unfoldable pub fullAt : Layer → (map kernel : List ℤ) (m i j : ℕ) → ℤ

@@ -5,11 +5,12 @@ use mathlib.Core.List.{List}
 use Prim.Native.Nat.{ℕ, _+_, _*_}
 use native.Mathlib.Omega.{arith}
 use lib.IntN.{ℤ, _*ℤ_}
+use Rattle.algebra.specs.Planes.{cell}
 use Rattle.algebra.specs.SumLaws.{integers, sum-cong}
 use Rattle.algebra.specs.Integer.{difference-eq, every₃, ring}
-use Rattle.layer.specs.Direct.{cell, shifted, conv, tconv, productSum}
+use Rattle.algebra.specs.TripleSums.{sum3, sum3-cong, sum3-mul, sum3-mul-right, sum3-swap}
+use Rattle.layer.specs.Direct.{shifted, conv, tconv, productSum}
 use Rattle.layer.specs.WindowLaws.{exchange-product, window}
-use Rattle.layer.specs.TripleSums.{sum3, sum3-cong, sum3-mul, sum3-mul-right, sum3-swap}
 
 -- CONV as a sum over the places of the map
 conv-over-map : (C H W K S P : ℕ) (x w : List ℤ) (m e f : ℕ)

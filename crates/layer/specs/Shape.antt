@@ -2,6 +2,7 @@
 use mathlib.Core.Bool.{Bool, cond}
 use Prim.Native.Nat.{ℕ, _+_, _*_, _-_, _/_, _%_}
 use lib.Dec.{eqb}
+use Rattle.base.specs.Number.{ceilingDiv}
 use Rattle.fermat.specs.Field.{points}
 use Rattle.layer.specs.declared.shape.Layer.{Layer}
 
@@ -65,15 +66,11 @@ gridStep l = cond (isConv l) (l .stride) 1
 abbrev pub span : Layer → ℕ → ℕ
 span l count = cond (isConv l) ((count - 1) * l .stride + 1) count
 
--- ⌈n / side⌉
-unfoldable pub tilesAcross : (side n : ℕ) → ℕ
-tilesAcross side n = (n + side - 1) / side
-
 abbrev pub tileRows : Layer → ℕ
-tileRows l = tilesAcross (tileSide l) (span l (l .rows))
+tileRows l = ceilingDiv (span l (l .rows)) (tileSide l)
 
 abbrev pub tileColumns : Layer → ℕ
-tileColumns l = tilesAcross (tileSide l) (span l (l .columns))
+tileColumns l = ceilingDiv (span l (l .columns)) (tileSide l)
 
 -- M × ⌈R/L⌉ × ⌈Q/L⌉
 unfoldable pub tileTotal : Layer → ℕ
@@ -95,3 +92,20 @@ columnOf l p = p % (l .rows * l .columns) % l .columns
 unfoldable pub tileOf : Layer → ℕ → ℕ
 tileOf l p =
     (channelOf l p * tileRows l + rowOf l p * gridStep l / tileSide l) * tileColumns l + columnOf l p * gridStep l / tileSide l
+
+-- the output channel of tile t, and the row and the column of tiles that it stands in
+abbrev pub tileChannel : Layer → ℕ → ℕ
+tileChannel l t = t / tileColumns l / tileRows l
+
+abbrev pub tileRow : Layer → ℕ → ℕ
+tileRow l t = t / tileColumns l % tileRows l
+
+abbrev pub tileColumn : Layer → ℕ → ℕ
+tileColumn l t = t % tileColumns l
+
+-- the row and the column, counted from the tile's first, of the flat output place p that tile t holds
+abbrev pub rowInTile : Layer → (t p : ℕ) → ℕ
+rowInTile l t p = rowOf l p * gridStep l - tileRow l t * tileSide l
+
+abbrev pub columnInTile : Layer → (t p : ℕ) → ℕ
+columnInTile l t p = columnOf l p * gridStep l - tileColumn l t * tileSide l

@@ -6,39 +6,14 @@ use Prim.Native.Nat.{ℕ, zero, suc, _+_, _*_, _-_, _/_, _%_, _<_, _≤_}
 use native.Mathlib.Nat.{div-lt-iff-lt-mul, div-add-mod', mod-lt, lt-div-mul-add, div-mul-le-self, mul-le-mul-right, suc-mul}
 use native.Mathlib.Omega.{arith}
 use lib.Arith.{digits-lt, digits-div, digits-mod}
+use Rattle.base.specs.NumberLaws.{ceiling-lt, ceiling-starts, quotient-low, quotient-high, quotient-is}
+use Rattle.base.specs.Number.{ceilingDiv}
+use Rattle.layer.specs.Planned.{InRange, Planned}
 use Rattle.layer.specs.declared.shape.Layer.{Layer}
-use Rattle.layer.specs.ChecksLaws.{InRange, Planned}
-use Rattle.layer.specs.TileSizes.{tile-side-low}
-use Rattle.layer.specs.Shape.{isConv, tileSide, gridStep, span, tilesAcross, tileRows, tileColumns, tileTotal, channelOf, rowOf, columnOf, tileOf}
+use Rattle.layer.specs.TileSizeLaws.{tile-side-low}
+use Rattle.layer.specs.Shape.{isConv, tileSide, gridStep, span, tileRows, tileColumns, tileTotal, channelOf, rowOf, columnOf, tileOf, tileChannel, tileRow, tileColumn}
 
 -- ---- along one side: places `step` apart on a line of tiles of `side`
-
--- the tiles cover the places of the line
-pub across-covers : (side n : ℕ) → 0 < side → n ≤ tilesAcross side n * side
-unfolding tilesAcross
-across-covers side n some = omega (arith, lt-div-mul-add {a = n + side - 1} {b = side} some)
-
-pub across-lt : (side n x : ℕ) → 0 < side → x < n → x / side < tilesAcross side n
-across-lt side n x some l = div-lt-iff-lt-mul some .1 (omega (arith, across-covers side n some))
-
--- and each of them starts on the line
-pub across-starts : (side n t : ℕ) → 0 < side → t < tilesAcross side n → t * side < n
-unfolding tilesAcross
-across-starts side n t some l =
-    let least : suc t * side ≤ (n + side - 1) / side * side = mul-le-mul-right side l in
-    omega (arith, div-mul-le-self (n + side - 1) side, suc-mul t side)
-
--- a quotient is known by the square that holds the dividend
-pub quotient-low : (side x t : ℕ) → x / side ≡ t → t * side ≤ x
-quotient-low side x t e = omega (arith, div-mul-le-self x side, ap (λ (k : ℕ). k * side) e)
-
-pub quotient-high : (side x t : ℕ) → 0 < side → x / side ≡ t → x < t * side + side
-quotient-high side x t some e = omega (arith, lt-div-mul-add {a = x} {b = side} some, ap (λ (k : ℕ). k * side) e)
-
-pub quotient-is : (side x t : ℕ) → t * side ≤ x → x < t * side + side → x / side ≡ t
-quotient-is side x t low high =
-    let e : x ≡ t * side + (x - t * side) = omega arith in
-    ap (λ (k : ℕ). k / side) e ∙ digits-div t (omega arith)
 
 -- the first of the places that lies in tile t: it exists where the tile is not shorter than the step
 pub record Held (side step count t : ℕ) : Type 0 where
@@ -46,9 +21,9 @@ pub record Held (side step count t : ℕ) : Type 0 where
   pub below : place < count
   pub tile : place * step / side ≡ t
 
-pub held : (side step count t : ℕ) → 0 < step → step ≤ side → 0 < count → t < tilesAcross side ((count - 1) * step + 1) → Held side step count t
+pub held : (side step count t : ℕ) → 0 < step → step ≤ side → 0 < count → t < ceilingDiv ((count - 1) * step + 1) side → Held side step count t
 held side step count t some wide wanted l =
-    let start : t * side < (count - 1) * step + 1 = across-starts side ((count - 1) * step + 1) t (omega arith) l in
+    let start : t * side < (count - 1) * step + 1 = ceiling-starts ((count - 1) * step + 1) side t (omega arith) l in
     let e : ℕ = (t * side + step - 1) / step in
     let low : t * side + step - 1 < e * step + step = lt-div-mul-add {a = t * side + step - 1} {b = step} some in
     let high : e * step ≤ t * side + step - 1 = div-mul-le-self (t * side + step - 1) step in
@@ -85,16 +60,6 @@ planned-tiled l p =
       wide = omega (arith, tile-side-low l (p .shape));
     }
 
--- the row and the column of tiles that tile t stands in, and its output channel
-abbrev pub tileChannel : Layer → ℕ → ℕ
-tileChannel l t = t / tileColumns l / tileRows l
-
-abbrev pub tileRow : Layer → ℕ → ℕ
-tileRow l t = t / tileColumns l % tileRows l
-
-abbrev pub tileColumn : Layer → ℕ → ℕ
-tileColumn l t = t % tileColumns l
-
 -- place p lies in the L by L square of tile t
 pub record InTile (l : Layer) (t p : ℕ) : Type 0 where
   pub channel : channelOf l p ≡ tileChannel l t
@@ -116,8 +81,8 @@ module _ (l : Layer) (tiled : Tiled l) where
   side-some = omega (arith, tiled .step, tiled .wide)
 
   -- a wanted row or column lies in one of the tiles across
-  line-lt : (count e : ℕ) → e < count → e * gridStep l / tileSide l < tilesAcross (tileSide l) (span l count)
-  line-lt count e h = rw (span-is l count (omega arith)) (across-lt (tileSide l) _ _ side-some (omega (arith, mul-le-mul-right (gridStep l) (less count e h))))
+  line-lt : (count e : ℕ) → e < count → e * gridStep l / tileSide l < ceilingDiv (span l count) (tileSide l)
+  line-lt count e h = rw (span-is l count (omega arith)) (ceiling-lt _ (tileSide l) _ side-some (omega (arith, mul-le-mul-right (gridStep l) (less count e h))))
     where
       less : (count e : ℕ) → e < count → e ≤ count - 1
       less count e h = omega arith
@@ -195,13 +160,13 @@ pub record Place (l : Layer) (t : ℕ) : Type 0 where
   pub tile : tileOf l place ≡ t
 
 -- a wanted row or column in tile t of a line of tiles
-pub line-held : (l : Layer) → Tiled l → (count t : ℕ) → 0 < count → t < tilesAcross (tileSide l) (span l count)
+pub line-held : (l : Layer) → Tiled l → (count t : ℕ) → 0 < count → t < ceilingDiv (span l count) (tileSide l)
     → Held (tileSide l) (gridStep l) count t
 line-held l tiled count t some h =
     held (tileSide l) (gridStep l) count t (tiled .step) (tiled .wide) some
-    (subst (λ (n : ℕ). t < tilesAcross (tileSide l) n) (span-is l count some) h)
+    (subst (λ (n : ℕ). t < ceilingDiv n (tileSide l)) (span-is l count some) h)
 
-pub line-some : (l : Layer) → Tiled l → (count : ℕ) → 0 < count → 0 < tilesAcross (tileSide l) (span l count)
+pub line-some : (l : Layer) → Tiled l → (count : ℕ) → 0 < count → 0 < ceilingDiv (span l count) (tileSide l)
 line-some l tiled count some = omega (arith, line-lt l tiled count 0 some)
 
 pub tile-channel-lt : (l : Layer) → Tiled l → (t : ℕ) → t < tileTotal l → tileChannel l t < l .outputs

@@ -11,6 +11,7 @@ use lib.Dec.{T, leb, ltb, eqb, leb→le, le→leb, ltb→lt, lt→ltb, eqb→eq,
 use lib.IntN.{ℤ, pos, _*ℤ_, *ℤ-zero, *ℤ-comm}
 use Rattle.algebra.specs.Sum.{sumZ}
 use Rattle.algebra.specs.SumLaws.{integers, sum-cong, sum-zero, sum-single, sum-swap}
+use Rattle.layer.specs.Windows.{spread}
 use Rattle.layer.specs.Direct.{when, within}
 
 -- ---- a value under a test
@@ -122,10 +123,6 @@ window K H s p = record {
         (h .1, within-yes q N v (omega arith) (omega arith), omega arith)
 
 -- ---- a window on a map with S − 1 zeros between its values
-
--- u − p is one of 0, S, 2S, .. (n − 1)S
-unfoldable pub spread : (S p n u : ℕ) → Bool
-spread S p n u = leb p u && (eqb ((u - p) % S) 0 && ltb ((u - p) / S) n)
 
 pub spread-is : (S p n u : ℕ) → T (spread S p n u) → (p ≤ u) × ((u - p) % S ≡ 0) × ((u - p) / S < n)
 unfolding spread

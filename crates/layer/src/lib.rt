@@ -1,9 +1,6 @@
-// A layer: its shape, its plan, the checks of its figures and values.
-pub mod groups;
-pub mod load;
+// A layer: its figures, the sizes that come of them, the places of its tiles, and the layout of its kernel.
 pub mod numbers;
+pub mod place;
 pub mod planes;
-pub mod planner;
 pub mod shape;
 pub mod sizes;
-pub mod values;

@@ -1,8 +1,8 @@
 // Where the kernel's planes lie: K by K weights from each map channel to each output channel.
 ghost use mathlib.Core.Path.{_≡_};
 ghost use Prim.Native.Nat.{ℕ, _+_, _*_, _≤_};
-ghost use Rattle.layer.specs.Load.{planeOf};
 use crate::shape::Layer;
+ghost use Rattle.layer.specs.Direct.{planeOf};
 
 // The kernel's planes that reach an output channel, one for each map channel.
 pub struct Planes {

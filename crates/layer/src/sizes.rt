@@ -1,11 +1,12 @@
 // The counts of a layer's values, the sizes of its full output and of its tiles. What they ask is what the rules 1 to 9 give.
 use crate::shape::Layer;
+use base::number::ceiling_div;
 use fermat::field;
 ghost use mathlib.Core.Path.{_≡_};
-ghost use Prim.Native.Nat.{_+_, _*_, _^_, _≤_, _<_};
-ghost use Rattle.layer.specs.Shape.{mapCount, kernelCount, outputCount, fullSize, scratchWords, tileSide, gridStep, span, tilesAcross, tileTotal};
-ghost use Rattle.layer.specs.ChecksLaws.{InRange, Outputs, Planned};
-ghost use Rattle.layer.specs.TileSizes.{Wanted};
+ghost use Prim.Native.Nat.{_+_, _*_, _≤_};
+ghost use Rattle.base.specs.Number.{ceilingDiv};
+ghost use Rattle.layer.specs.Planned.{InRange, Outputs, Planned, Wanted};
+ghost use Rattle.layer.specs.Shape.{mapCount, kernelCount, outputCount, fullSize, scratchWords, tileSide, gridStep, span, tileTotal};
 
 // Map values: C·H·W.
 pub fn map_count(layer: Layer) -> usize
@@ -32,7 +33,7 @@ pub fn output_count(layer: Layer) -> usize
 }
 
 // E of a map's height, F of its width.
-pub(crate) fn full_size(layer: Layer, size: usize) -> usize
+pub fn full_size(layer: Layer, size: usize) -> usize
     requires { ⌜ Outputs layer size ⌝ }
     ensures { λ r. ⌜ r ≡ fullSize layer size ⌝ }
 {
@@ -79,20 +80,12 @@ fn span_of(layer: Layer, count: usize) -> usize
     }
 }
 
-// ⌈n / side⌉.
-pub fn tiles_across(side: usize, n: usize) -> usize
-    requires { ⌜ (1 ≤ side) × (n + side < 2 ^ 64) ⌝ }
-    ensures { λ r. ⌜ r ≡ tilesAcross side n ⌝ }
-{
-    (n + side - 1) / side
-}
-
 // Tile rows of the rows kept, tile columns of the columns kept.
 pub fn tiles_along(layer: Layer, count: usize) -> usize
     requires { ⌜ Wanted layer count ⌝ }
-    ensures { λ r. ⌜ r ≡ tilesAcross (tileSide layer) (span layer count) ⌝ }
+    ensures { λ r. ⌜ r ≡ ceilingDiv (span layer count) (tileSide layer) ⌝ }
 {
-    tiles_across(tile_side(layer), span_of(layer, count))
+    ceiling_div(span_of(layer, count), tile_side(layer))
 }
 
 // M × ⌈R/L⌉ × ⌈Q/L⌉.

@@ -4,7 +4,7 @@ use Prim.Native.Nat.{ℕ}
 use lib.Dec.{eqb}
 use lib.IntN.{ℤ}
 use lib.ListN.{length}
-use Rattle.fermat.specs.Rules.{Rule, rule, firstBroken, inside, outcome}
+use Rattle.base.specs.Rules.{Rule, rule, firstBroken, inside, outcome}
 use Rattle.levels.specs.Level.{level}
 
 -- 20: the shift is 0 to 31; B is 1 to 32,767; there is room for as many levels as there are outputs

@@ -2,7 +2,7 @@
 use mathlib.Core.Path.{_≡_}
 use Prim.Native.Nat.{ℕ, _≤_}
 use borrow.Author.Tests.{eqb-true}
-use Rattle.fermat.specs.RulesLaws.{Hold, none-broken, inside-low, inside-high}
+use Rattle.base.specs.RulesLaws.{Hold, none-broken, inside-low, inside-high}
 use Rattle.levels.specs.Answer.{levelsRules, levelsCode}
 
 pub record Accepted (shift bound count room : ℕ) : Type 0 where

@@ -1,6 +1,6 @@
 // Levels for the screen: each output is divided by 2^shift to the nearest whole number, halves going away from zero, and clamped.
 // `levels` checks the shift, the bound and the two lengths first, and leaves refused levels as they were.
-use fermat::rules;
+use base::rules;
 ghost use mathlib.Core.Path.{_≡_};
 ghost use Prim.Native.Nat.{_≤_};
 ghost use lib.ListN.{length};
@@ -12,16 +12,9 @@ mod value;
 fn levels_code(shift: usize, bound: usize, count: usize, room: usize) -> usize
     ensures { λ r. ⌜ r ≡ levelsCode shift bound count room ⌝ }
 {
-    if !rules::is_inside(0, 31, shift) {
-        return 20;
-    }
-    if !rules::is_inside(1, 32767, bound) {
-        return 20;
-    }
-    if room != count {
-        return 20;
-    }
-    0
+    let code = rules::next(0, 20, rules::is_inside(0, 31, shift));
+    let code = rules::next(code, 20, rules::is_inside(1, 32767, bound));
+    rules::next(code, 20, room == count)
 }
 
 // Writes the level of each output. No turn depends on another, and every `if` only chooses between two numbers, so that the loop is

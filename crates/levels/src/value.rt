@@ -1,5 +1,5 @@
 // The level of one output: its size is divided and clamped, then takes the sign of the output.
-use fermat::number;
+use base::number;
 ghost use mathlib.Core.Path.{_≡_};
 ghost use mathlib.Core.Bool.{cond};
 ghost use Prim.Native.Nat.{_/_, _^_, _≤_};

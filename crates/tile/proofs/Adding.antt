@@ -12,22 +12,24 @@ use lib.Dec.{eqb}
 use lib.IntN.{ℤ, pos}
 use lib.ListN.{length, getD}
 use borrow.Rule.Slice.PartMut.{putMid}
+use Rattle.algebra.specs.Residue.{Represents}
 use Rattle.algebra.specs.SumLaws.{sumZ-none, sumZ-last}
 use Rattle.algebra.specs.Places.{Changed}
 use Rattle.algebra.specs.PlacesLaws.{getD-put-mid, changed-part, changed-again}
 use Rattle.algebra.specs.CongruenceLaws.{c-eq}
-use Rattle.algebra.specs.ResidueLaws.{Represents, represents-add}
+use Rattle.algebra.specs.ResidueLaws.{represents-add}
 use Rattle.fermat.specs.Field.{modulus}
 use Rattle.fermat.specs.Transform.{circular2}
-use Rattle.fermat.specs.Tile.{Spectrum}
-use Rattle.fermat.specs.Product.{factorMost, productMost, Accumulated}
-use Rattle.fermat.specs.SpectrumLaws.{spectrum-none, spectrum-moved, spectrum-kept, spectrum-accumulated}
+use Rattle.spectrum.specs.Tile.{Spectrum}
+use Rattle.spectrum.specs.Product.{factorMost, productMost, Accumulated}
+use Rattle.spectrum.specs.SpectrumLaws.{spectrum-none, spectrum-moved, spectrum-kept, spectrum-accumulated}
+use Rattle.layer.specs.PlannedLaws.{cond-le}
+use Rattle.layer.specs.Planned.{Planned}
+use Rattle.layer.specs.Direct.{planeOf}
 use Rattle.layer.specs.declared.shape.Layer.{Layer}
 use Rattle.layer.specs.Shape.{transformLength}
-use Rattle.layer.specs.Load.{planeOf}
-use Rattle.layer.specs.ChecksLaws.{Planned, cond-le}
+use Rattle.window.specs.Window.{windowAt}
 use Rattle.tile.specs.declared.origin.Origin.{Origin}
-use Rattle.tile.specs.Window.{windowAt}
 use Rattle.tile.specs.Channel.{area, KernelReady, KernelKept, WindowReady, Added}
 use Rattle.tile.proofs.KernelReady.{kernel-moved}
 use Rattle.tile.proofs.TileReads.{channel-represents}

@@ -6,23 +6,25 @@ use native.Mathlib.Nat.{zero-add}
 use native.Mathlib.Omega.{arith}
 use lib.IntN.{ℤ}
 use lib.ListN.{length, getD, List·getD-append}
+use Rattle.algebra.specs.Residue.{Represents}
 use Rattle.algebra.specs.Sum.{sumZ}
-use Rattle.algebra.specs.ResidueLaws.{Represents}
 use Rattle.fermat.specs.Field.{modulus}
-use Rattle.fermat.specs.Tile.{Spectrum, Recovered}
-use Rattle.fermat.specs.SpectrumLaws.{spectrum-kept}
-use Rattle.fermat.specs.OrderLaws.{place-lt}
+use Rattle.passes.specs.OrderLaws.{place-lt}
+use Rattle.spectrum.specs.Value.{offsetOf, Storable}
+use Rattle.spectrum.specs.Tile.{Spectrum, Recovered}
+use Rattle.spectrum.specs.SpectrumLaws.{spectrum-kept}
+use Rattle.spectrum.specs.ValueLaws.{Moved}
+use Rattle.layer.specs.Planned.{Planned}
 use Rattle.layer.specs.declared.shape.Layer.{Layer}
-use Rattle.layer.specs.Shape.{transformLength, tileOf}
+use Rattle.layer.specs.Shape.{transformLength, tileOf, tileChannel, rowInTile, columnInTile}
 use Rattle.layer.specs.Direct.{directAt}
-use Rattle.layer.specs.Engine.{tileEngine}
-use Rattle.layer.specs.ChecksLaws.{Planned, Callable}
-use Rattle.layer.specs.TileLaws.{InTile, planned-tiled, to-tile, tileChannel}
+use Rattle.layer.specs.TileLaws.{InTile, planned-tiled, to-tile}
+use Rattle.checks.specs.Callable.{Callable}
+use Rattle.checks.specs.Engine.{tileEngine}
+use Rattle.window.specs.Window.{firstRow, firstColumn, channelSum}
+use Rattle.store.specs.Stored.{wordOf, storedAt}
 use Rattle.tile.specs.declared.origin.Origin.{Origin}
-use Rattle.tile.specs.Window.{firstRow, firstColumn, channelSum, rowInTile, columnInTile}
 use Rattle.tile.specs.Channel.{area, Added}
-use Rattle.tile.specs.Stored.{halfOf, wordOf, storedAt, Storable}
-use Rattle.tile.proofs.Reading.{Moved}
 use Rattle.tile.proofs.TileReads.{row-in-window, column-in-window, tile-reads}
 
 -- the origin is that of tile t
@@ -58,7 +60,7 @@ module _ (l : Layer) (map kernel : List ℤ) (output scratch t : ℕ) (callable 
     column = column-in-window l plan t p in-tile
 
     -- the word of place p
-    word-is : wordOf l t p (rs ++ rest) ≡ (added .sum i j + halfOf (l .field)) % modulus (l .field)
+    word-is : wordOf l t p (rs ++ rest) ≡ (added .sum i j + offsetOf (l .field)) % modulus (l .field)
     word-is =
         List·getD-append rs rest 0 (i * transformLength l + j) (omega (arith, size, place-lt i j row column))
         ∙ recovered (added .sum) sums i j row column
@@ -67,9 +69,9 @@ module _ (l : Layer) (map kernel : List ℤ) (output scratch t : ℕ) (callable 
         (sumZ (l .inputs) (λ c. channelSum l map kernel (tileChannel l t) (firstRow l t) (firstColumn l t) c i j)) (added .sum i j)
     represents = rw (sym (at .channel), sym (at .row), sym (at .column)) (added .value i j (omega arith) row (omega arith) column)
 
-    reads : Moved (halfOf (l .field)) 2147483647 (directAt l map kernel p) ((added .sum i j + halfOf (l .field)) % modulus (l .field))
+    reads : Moved (offsetOf (l .field)) 2147483647 (directAt l map kernel p) ((added .sum i j + offsetOf (l .field)) % modulus (l .field))
     reads = tile-reads l map kernel output scratch t callable p below held represents
 
     -- what is stored is the direct sum, and it fits 32 bits
-    pub finished : Storable (halfOf (l .field)) (wordOf l t p (rs ++ rest)) × (storedAt l t (rs ++ rest) p ≡ directAt l map kernel p)
+    pub finished : Storable (offsetOf (l .field)) (wordOf l t p (rs ++ rest)) × (storedAt l t (rs ++ rest) p ≡ directAt l map kernel p)
     finished = rw word-is (reads .bound, reads .reads)

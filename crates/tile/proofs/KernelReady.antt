@@ -18,15 +18,15 @@ use Rattle.algebra.specs.Places.{Changed}
 use Rattle.algebra.specs.PlacesLaws.{getD-put-mid}
 use Rattle.algebra.specs.CongruenceLaws.{c-eq}
 use Rattle.fermat.specs.Field.{modulus, points}
-use Rattle.fermat.specs.Tile.{Spectrum}
-use Rattle.fermat.specs.Corner.{corner, Cornered}
-use Rattle.fermat.specs.Product.{factorMost}
-use Rattle.fermat.specs.SpectrumLaws.{spectrum-moved}
+use Rattle.spectrum.specs.Tile.{Spectrum}
+use Rattle.spectrum.specs.Corner.{corner, Cornered}
+use Rattle.spectrum.specs.Product.{factorMost}
+use Rattle.spectrum.specs.SpectrumLaws.{spectrum-moved}
+use Rattle.layer.specs.Planned.{InRange}
 use Rattle.layer.specs.declared.shape.Layer.{Layer}
 use Rattle.layer.specs.Shape.{transformLength}
-use Rattle.layer.specs.ChecksLaws.{InRange}
-use Rattle.layer.specs.TileSizes.{length-low, length-high}
-use Rattle.tile.specs.Loaded.{HoldsKernel}
+use Rattle.layer.specs.TileSizeLaws.{length-low, length-high}
+use Rattle.window.specs.Loaded.{HoldsKernel}
 use Rattle.tile.specs.Channel.{area, KernelReady}
 
 -- the numbers: n is N, `from` is N², and the part that is lent has s words

@@ -1,16 +1,7 @@
-mod Sizes
-mod Loads
-mod Corner
-mod Figures
-mod Rows
-mod WindowRows
 mod KernelReady
 mod WindowIdentity
 mod Folding
 mod Reading
 mod TileReads
 mod Adding
-mod StoredRows
-mod HeldLines
-mod HeldPlaces
 mod Finishing

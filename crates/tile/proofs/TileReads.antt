@@ -7,23 +7,26 @@ use Prim.Native.Nat.{ℕ, _+_, _*_, _-_, _/_, _%_, _^_, _<_, _≤_}
 use native.Mathlib.Nat.{le-trans, mul-assoc}
 use native.Mathlib.Omega.{arith}
 use lib.IntN.{ℤ, natAbs}
+use Rattle.algebra.specs.Residue.{Represents}
 use Rattle.algebra.specs.Sum.{sumZ}
-use Rattle.algebra.specs.ResidueLaws.{Represents, represents-mul, represents-sum}
+use Rattle.algebra.specs.ResidueLaws.{represents-mul, represents-sum}
 use Rattle.fermat.specs.Field.{modulus}
 use Rattle.fermat.specs.Transform.{circular2}
+use Rattle.spectrum.specs.ValueLaws.{Moved}
+use Rattle.layer.specs.Planned.{Planned}
 use Rattle.layer.specs.declared.shape.Layer.{Layer}
-use Rattle.layer.specs.Shape.{transformLength, tileSide, gridStep, channelOf, rowOf, columnOf, tileOf}
-use Rattle.layer.specs.Direct.{directAt}
-use Rattle.layer.specs.Load.{planeOf, loadLimit}
-use Rattle.layer.specs.LoadLaws.{peak-bounds, load-fits, direct-load}
-use Rattle.layer.specs.Engine.{tileEngine}
-use Rattle.layer.specs.ChecksLaws.{Planned, Callable}
-use Rattle.layer.specs.TileSizes.{length-low}
-use Rattle.layer.specs.TileLaws.{InTile, tileChannel, tileRow, tileColumn, planned-tiled, to-tile, channel-lt}
-use Rattle.tile.specs.Window.{firstRow, firstColumn, windowAt, weightAt, channelSum, rowInTile, columnInTile}
+use Rattle.layer.specs.Shape.{transformLength, tileSide, gridStep, channelOf, rowOf, columnOf, tileOf, tileChannel, tileRow, tileColumn, rowInTile, columnInTile}
+use Rattle.layer.specs.Direct.{directAt, planeOf}
+use Rattle.layer.specs.TileSizeLaws.{length-low}
+use Rattle.layer.specs.TileLaws.{InTile, planned-tiled, to-tile, channel-lt}
+use Rattle.load.specs.Load.{loadLimit}
+use Rattle.load.specs.LoadLaws.{peak-bounds, load-fits, direct-load}
+use Rattle.checks.specs.Callable.{Callable}
+use Rattle.checks.specs.Engine.{tileEngine}
+use Rattle.window.specs.Window.{firstRow, firstColumn, windowAt, weightAt, channelSum}
 use Rattle.tile.proofs.WindowIdentity.{tile-sum}
 use Rattle.tile.proofs.Folding.{folding}
-use Rattle.tile.proofs.Reading.{Moved, field-reading}
+use Rattle.tile.proofs.Reading.{field-reading}
 
 -- ---- the row and the column of a place, K − 1 further on, lie within the window
 

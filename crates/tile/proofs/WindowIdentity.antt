@@ -10,17 +10,17 @@ use native.Mathlib.Omega.{arith}
 use borrow.Author.Tests.{le-leb, lt-leb}
 use lib.Dec.{leb}
 use lib.IntN.{ℤ, _*ℤ_}
+use Rattle.algebra.specs.Planes.{cell}
 use Rattle.algebra.specs.Sum.{sumZ}
 use Rattle.algebra.specs.SumLaws.{integers, sum-cong, sum-reverse}
+use Rattle.layer.specs.Windows.{spread, weighed, spaced, metBy}
+use Rattle.layer.specs.Planned.{Planned}
 use Rattle.layer.specs.declared.shape.Layer.{Layer}
-use Rattle.layer.specs.Shape.{isConv, tileSide, gridStep, channelOf, rowOf, columnOf}
-use Rattle.layer.specs.Direct.{within, cell, shifted, directAt}
-use Rattle.layer.specs.Load.{planeOf}
-use Rattle.layer.specs.ChecksLaws.{Planned}
-use Rattle.layer.specs.TileLaws.{InTile, tileChannel, tileRow, tileColumn}
-use Rattle.layer.specs.WindowLaws.{spread}
-use Rattle.layer.specs.Weighed.{weighed, spaced, metBy, full-weighed}
-use Rattle.tile.specs.Window.{spacing, edge, firstRow, firstColumn, windowAt, turnedIndex, weightAt, channelSum, rowInTile, columnInTile}
+use Rattle.layer.specs.Shape.{isConv, tileSide, gridStep, channelOf, rowOf, columnOf, tileChannel, tileRow, tileColumn, rowInTile, columnInTile}
+use Rattle.layer.specs.Direct.{within, shifted, directAt, planeOf}
+use Rattle.layer.specs.TileLaws.{InTile}
+use Rattle.layer.specs.WeighedLaws.{full-weighed}
+use Rattle.window.specs.Window.{spacing, edge, firstRow, firstColumn, windowAt, turnedIndex, weightAt, channelSum}
 
 -- ---- spaced values
 

@@ -5,19 +5,19 @@ use mathlib.Core.List.{List}
 use Prim.Native.Nat.{ℕ, _+_, _*_, _-_, _≤_, _<_}
 use lib.IntN.{ℤ}
 use lib.ListN.{length, getD}
+use Rattle.algebra.specs.Residue.{Represents}
 use Rattle.algebra.specs.Sum.{sumZ}
 use Rattle.algebra.specs.Places.{Changed}
-use Rattle.algebra.specs.ResidueLaws.{Represents}
 use Rattle.fermat.specs.Field.{modulus}
-use Rattle.fermat.specs.Butterfly.{AtMost}
-use Rattle.fermat.specs.Tile.{Spectrum}
-use Rattle.fermat.specs.Product.{factorMost, productMost}
+use Rattle.passes.specs.Butterfly.{AtMost}
+use Rattle.spectrum.specs.Tile.{Spectrum}
+use Rattle.spectrum.specs.Product.{factorMost, productMost}
+use Rattle.layer.specs.Planned.{Planned}
+use Rattle.layer.specs.Direct.{planeOf}
 use Rattle.layer.specs.declared.shape.Layer.{Layer}
 use Rattle.layer.specs.Shape.{transformLength}
-use Rattle.layer.specs.Load.{planeOf}
-use Rattle.layer.specs.ChecksLaws.{Planned}
+use Rattle.window.specs.Window.{windowAt, weightAt, channelSum}
 use Rattle.tile.specs.declared.origin.Origin.{Origin}
-use Rattle.tile.specs.Window.{windowAt, weightAt, channelSum}
 
 -- N²
 abbrev pub area : Layer → ℕ

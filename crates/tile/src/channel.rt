@@ -1,19 +1,19 @@
 // One map channel of a tile: the transform of the kernel's plane and that of the window, and their product added to the sum.
-use crate::kernel::load_kernel;
 use crate::origin::Origin;
-use crate::window::load_window;
 use fermat::field;
-use fermat::product::accumulate;
-use fermat::spectrum::corner_spectrum;
-use fermat::spectrum::tile_spectrum;
 use layer::planes::planes_to;
 use layer::shape::Layer;
+use spectrum::corner_spectrum;
+use spectrum::product::accumulate;
+use spectrum::tile_spectrum;
+use window::kernel::load_kernel;
+use window::load_window;
 ghost use mathlib.Core.Path.{_≡_};
 ghost use mathlib.Core.Bool.{true};
 ghost use Prim.Native.Nat.{ℕ, _+_, _*_, _≤_, _<_};
 ghost use lib.ListN.{length, getD};
-ghost use Rattle.fermat.specs.Product.{productMost};
-ghost use Rattle.layer.specs.ChecksLaws.{InRange};
+ghost use Rattle.spectrum.specs.Product.{productMost};
+ghost use Rattle.layer.specs.Planned.{InRange};
 ghost use Rattle.tile.specs.Channel.{area, KernelReady, KernelKept, WindowReady, Lent, Within, Adds};
 
 // The transform of a plane of the kernel. The words are two parts: it comes out in the first, and the second is used on the way.
@@ -76,19 +76,19 @@ pub(crate) fn add_channel(
     ensures { λ _. ⌜ KernelKept layer (now (kernel .entry)) (origin .channel) c (now (scratch .exit)) ⌝ }
 {
     let n = field::points_of(layer.field);
-    let one = n * n;
-    let two = 2 * one;
-    let three = 3 * one;
+    let area = n * n;
+    let window = 2 * area;
+    let end = 3 * area;
     let planes = planes_to(layer, origin.channel);
     let plane = planes.first + c * planes.step;
-    ready_kernel(&mut scratch[one..three], layer, kernel, plane, kept);
+    ready_kernel(&mut scratch[area..end], layer, kernel, plane, kept);
     window_spectrum(
-        &mut scratch[two..three],
+        &mut scratch[window..end],
         layer,
         map,
         c,
         origin.row,
         origin.column,
     );
-    accumulate(scratch, one, layer.field);
+    accumulate(scratch, area, layer.field);
 }

@@ -2,22 +2,21 @@
 use crate::channel::add_channel;
 use crate::origin::Origin;
 use crate::origin::origin_of;
-use crate::store::store_tile;
+use base::words::clear;
 use fermat::field;
-use fermat::residues::clear;
-use fermat::spectrum::recover_tile;
 use layer::shape::Layer;
+use spectrum::recover_tile;
+use store::store_tile;
 ghost use mathlib.Core.Path.{_≡_};
 ghost use mathlib.Core.Bool.{true};
 ghost use Prim.Native.Nat.{ℕ, _-_, _*_, _<_};
 ghost use lib.IntN.{pos};
 ghost use lib.ListN.{length, getD};
 ghost use Rattle.algebra.specs.Places.{Written, Changed};
-ghost use Rattle.layer.specs.Shape.{tileTotal, tileOf};
-ghost use Rattle.layer.specs.Engine.{tileEngine};
+ghost use Rattle.layer.specs.Shape.{tileTotal, tileOf, tileChannel};
 ghost use Rattle.layer.specs.Direct.{directAt};
-ghost use Rattle.layer.specs.ChecksLaws.{Callable};
-ghost use Rattle.layer.specs.TileLaws.{tileChannel};
+ghost use Rattle.checks.specs.Callable.{Callable};
+ghost use Rattle.checks.specs.Engine.{tileEngine};
 ghost use Rattle.tile.specs.Channel.{area, KernelKept, Lent, Within, Added};
 
 // All map channels, one after the other. The last one's transform of the kernel is left in scratch.
@@ -61,10 +60,10 @@ pub fn finish_tile(
     ensures { λ _. ⌜ KernelKept layer (now (kernel .entry)) (tileChannel layer tile) (layer .inputs - 1) (now (scratch .exit)) ⌝ }
 {
     let n = field::points_of(layer.field);
-    let one = n * n;
+    let area = n * n;
     let origin = origin_of(layer, tile);
-    clear(scratch, 0, one);
+    clear(scratch, 0, area);
     add_channels(scratch, layer, origin, map, kernel, kept);
-    recover_tile(&mut scratch[0..one], layer.field);
+    recover_tile(&mut scratch[0..area], layer.field);
     store_tile(output, scratch, layer, tile);
 }

@@ -1,10 +1,4 @@
 // One tile of a layer, from its map and kernel to its outputs. `finish_tile` is the whole; the other modules are its steps.
 mod channel;
 pub mod finish;
-mod kernel;
 mod origin;
-pub mod place;
-mod shown;
-mod store;
-mod window;
-mod word;

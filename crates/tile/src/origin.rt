@@ -1,12 +1,11 @@
 // Where the windows of a tile begin.
-use crate::place;
+use layer::place;
 use layer::shape::Layer;
 ghost use mathlib.Core.Path.{_≡_};
 ghost use Prim.Native.Nat.{_<_};
-ghost use Rattle.layer.specs.Shape.{tileTotal};
-ghost use Rattle.layer.specs.ChecksLaws.{Planned};
-ghost use Rattle.layer.specs.TileLaws.{tileChannel};
-ghost use Rattle.tile.specs.Window.{firstRow, firstColumn};
+ghost use Rattle.layer.specs.Planned.{Planned};
+ghost use Rattle.layer.specs.Shape.{tileTotal, tileChannel};
+ghost use Rattle.window.specs.Window.{firstRow, firstColumn};
 ghost use Rattle.tile.specs.Channel.{Within};
 
 // The output channel of a tile, and the row and the column of the stride-1 grid that its windows begin at.

@@ -5,7 +5,7 @@ use mathlib.Core.List.{List, [], _∷_}
 use Prim.Native.Nat.{ℕ}
 use lib.IntN.{ℤ}
 use Rattle.layer.specs.declared.shape.Plan.{Plan}
-use Rattle.layer.specs.Engine.{Engine}
+use Rattle.checks.specs.Engine.{Engine}
 use Rattle.engine.specs.declared.job.Job.{Job}
 use Rattle.engine.specs.declared.job.Progress.{Progress}
 use Rattle.engine.specs.Call.{Called}

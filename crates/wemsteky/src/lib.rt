@@ -1,19 +1,19 @@
 // The C interface, declared in include/wemsteky.h. Each function takes its numbers apart, calls the library and puts the answer together.
+use checks::planner;
 use engine::job::Job;
 use engine::job::Progress;
 use layer::numbers::layer_of;
-use layer::planner;
 ghost use mathlib.Core.Path.{_≡_};
 ghost use lib.ListN.{length};
-ghost use Rattle.fermat.specs.Answer.{transformCode, transformed, inverted};
+ghost use Rattle.transform.specs.Answer.{transformCode, transformed, inverted};
 ghost use Rattle.layer.specs.Shape.{tileTotal};
-ghost use Rattle.layer.specs.Engine.{tileEngine};
 ghost use Rattle.layer.specs.Numbers.{layerOf};
-ghost use Rattle.layer.specs.Checks.{planOf};
+ghost use Rattle.checks.specs.Engine.{tileEngine};
+ghost use Rattle.checks.specs.Checks.{planOf};
+ghost use Rattle.engine.specs.Call.{startOf};
 ghost use Rattle.levels.specs.Answer.{levelsCode, levelsLeft};
 ghost use Rattle.noise.specs.Draw.{lastSeed, noiseLeft};
 ghost use Rattle.join.specs.Answer.{joinCode, joinLeft};
-ghost use Rattle.engine.specs.Call.{startOf};
 ghost use Rattle.wemsteky.specs.Figures.{planFigures, progressFigures, Reported};
 
 // E, F, the tile total and 3N²; zeros where the layer is refused.
@@ -76,14 +76,14 @@ pub extern "C" fn wemsteky_job(
 pub extern "C" fn wemsteky_transform(field: usize, words: &mut [u64]) -> usize
     ensures { λ r. ⌜ (r ≡ transformCode field (now (words .entry))) × (now (words .exit) ≡ transformed field (now (words .entry))) ⌝ }
 {
-    fermat::transform(field, words)
+    transform::transform(field, words)
 }
 
 #[no_mangle]
 pub extern "C" fn wemsteky_inverse(field: usize, words: &mut [u64]) -> usize
     ensures { λ r. ⌜ (r ≡ transformCode field (now (words .entry))) × (now (words .exit) ≡ inverted field (now (words .entry))) ⌝ }
 {
-    fermat::inverse(field, words)
+    transform::inverse(field, words)
 }
 
 #[no_mangle]

@@ -1,7 +1,7 @@
 -- The job's call with the plan's tiles as its budget. Outcomes says that it comes to that with the total.
 use borrow.Author.Needs.{needs}
 use denote.Ref.{now}
-use Rattle.layer.specs.Engine.{tileEngine}
+use Rattle.checks.specs.Engine.{tileEngine}
 use Rattle.engine.proofs.Outcomes.{planned-budget}
 use Rattle.engine.proofs.run.Statement.{statement}
 use Rattle.engine.proofs.run.Tie as tie

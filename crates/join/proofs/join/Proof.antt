@@ -3,7 +3,7 @@ use mathlib.Core.Path.{_≡_, sym, _∙_}
 use borrow.Author.Needs.{needs}
 use denote.Ref.{now}
 use lib.ListN.{length}
-use Rattle.fermat.specs.RulesLaws.{outcome-made, outcome-lent}
+use Rattle.base.specs.RulesLaws.{outcome-made, outcome-lent}
 use Rattle.join.specs.Answer.{joinCode}
 use Rattle.join.specs.AnswerLaws.{accepted, joinable}
 use Rattle.join.proofs.join.Statement.{statement}

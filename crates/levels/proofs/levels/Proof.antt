@@ -3,7 +3,7 @@ use mathlib.Core.Path.{_≡_, sym, _∙_}
 use borrow.Author.Needs.{needs}
 use denote.Ref.{now}
 use lib.ListN.{length}
-use Rattle.fermat.specs.RulesLaws.{outcome-made, outcome-lent}
+use Rattle.base.specs.RulesLaws.{outcome-made, outcome-lent}
 use Rattle.levels.specs.Answer.{levelsCode}
 use Rattle.levels.specs.AnswerLaws.{accepted}
 use Rattle.levels.proofs.levels.Statement.{statement}

@@ -4,8 +4,8 @@ use borrow.Author.Needs.{needs}
 use denote.Ref.{now}
 use Rattle.layer.specs.declared.shape.Plan.{Plan}
 use Rattle.layer.specs.Numbers.{layerOf}
-use Rattle.layer.specs.Engine.{tileEngine}
-use Rattle.layer.specs.Checks.{planOf}
+use Rattle.checks.specs.Engine.{tileEngine}
+use Rattle.checks.specs.Checks.{planOf}
 use Rattle.wemsteky.specs.Figures.{planFigures}
 use Rattle.wemsteky.proofs.wemsteky_plan.Statement.{statement}
 use Rattle.wemsteky.proofs.wemsteky_plan.Tie as tie

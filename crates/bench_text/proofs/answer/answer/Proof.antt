@@ -9,13 +9,13 @@ use borrow.Author.Tests.{not-true, not-false}
 use denote.Ref.{now}
 use lib.ListN.{take, drop}
 use Rattle.layer.specs.Numbers.{layerOf}
-use Rattle.layer.specs.Engine.{tileEngine}
-use Rattle.layer.specs.Checks.{planCode}
-use Rattle.layer.specs.ChecksLaws.{planned}
-use Rattle.layer.specs.EngineLaws.{tile-lawful}
-use Rattle.bench_text.specs.Words.{wordsOf, figuresOf}
+use Rattle.checks.specs.Engine.{tileEngine}
+use Rattle.checks.specs.Checks.{planCode}
+use Rattle.checks.specs.ChecksLaws.{planned}
+use Rattle.checks.specs.EngineLaws.{tile-lawful}
+use Rattle.text.specs.Words.{wordsOf, figuresOf}
+use Rattle.text.specs.WritingLaws.{append-within}
 use Rattle.bench_text.specs.Printed.{isLong, inputWords, headerReads}
-use Rattle.bench_text.specs.WritingLaws.{append-within}
 use Rattle.bench_text.proofs.Headers.{take-min, headerLayer, header-unread, layer-refused, long-unread, body-follows}
 use Rattle.bench_text.proofs.answer.answer.Statement.{statement}
 use Rattle.bench_text.proofs.answer.answer.Tie as tie

@@ -5,8 +5,8 @@ use borrow.Author.Tests.{not-true, not-false}
 use denote.Ref.{now}
 use lib.ListN.{drop}
 use Rattle.layer.specs.Shape.{mapCount, kernelCount}
-use Rattle.bench_text.specs.Words.{wordsOf}
-use Rattle.bench_text.specs.Reading.{BodyRead}
+use Rattle.text.specs.Words.{wordsOf}
+use Rattle.text.specs.Reading.{BodyRead}
 use Rattle.bench_text.proofs.Bodies.{unread-printed, read-printed}
 use Rattle.bench_text.proofs.Counts.{small-output}
 use Rattle.bench_text.proofs.answer.put_read.Statement.{statement}

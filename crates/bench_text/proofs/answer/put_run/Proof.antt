@@ -3,8 +3,8 @@ use Prim.Native.Nat.{_≤_}
 use native.Mathlib.Omega.{arith}
 use borrow.Author.Needs.{needs}
 use lib.ListN.{length-append}
-use Rattle.bench_text.specs.WritingLaws.{append-two}
-use Rattle.bench_text.proofs.Decimals.{decimal-few}
+use Rattle.text.specs.WritingLaws.{append-two}
+use Rattle.text.specs.DecimalLaws.{decimal-few}
 use Rattle.bench_text.proofs.Runs.{run-refused, run-accepted}
 use Rattle.bench_text.proofs.answer.put_run.Statement.{statement}
 use Rattle.bench_text.proofs.answer.put_run.Tie as tie

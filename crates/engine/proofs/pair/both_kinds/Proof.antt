@@ -2,7 +2,7 @@
 use mathlib.Core.Path.{sym, _∙_, subst}
 use lib.Dec.{T}
 use borrow.Author.Needs.{needs}
-use Rattle.layer.specs.EngineLaws.{tile-lawful}
+use Rattle.checks.specs.EngineLaws.{tile-lawful}
 use Rattle.engine.proofs.ThreeCalls.{lists-agree}
 use Rattle.engine.proofs.pair.both_kinds.Statement.{statement}
 use Rattle.engine.proofs.pair.both_kinds.Tie as tie

@@ -4,7 +4,7 @@ use Prim.Native.Nat.{ℕ}
 use borrow.Author.Needs.{needs}
 use denote.Ref.{now}
 use lib.Dec.{eqb}
-use Rattle.layer.specs.EngineLaws.{tile-lawful}
+use Rattle.checks.specs.EngineLaws.{tile-lawful}
 use Rattle.engine.proofs.Outcomes.{output-length, scratch-length}
 use Rattle.engine.proofs.ThreeCalls.{last-code, three-calls}
 use Rattle.engine.proofs.pair.three_calls.Statement.{statement}

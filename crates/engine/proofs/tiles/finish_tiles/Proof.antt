@@ -6,10 +6,9 @@ use borrow.Author.Needs.{needs}
 use denote.Ref.{now}
 use Rattle.algebra.specs.Places.{Changed}
 use Rattle.algebra.specs.PlacesLaws.{changed-nothing, changed-again}
-use Rattle.layer.specs.Shape.{scratchWords}
-use Rattle.layer.specs.Engine.{tileEngine}
-use Rattle.layer.specs.Load.{planeOf}
-use Rattle.layer.specs.TileLaws.{tileChannel}
+use Rattle.layer.specs.Direct.{planeOf}
+use Rattle.layer.specs.Shape.{scratchWords, tileChannel}
+use Rattle.checks.specs.Engine.{tileEngine}
 use Rattle.tile.specs.Channel.{area, KernelReady, KernelKept}
 use Rattle.engine.proofs.PartsWritten.{PartsWritten, no-part, one-more-part, written-finished}
 use Rattle.engine.proofs.tiles.finish_tiles.Statement.{statement}

@@ -3,7 +3,7 @@ use mathlib.Core.Path.{_≡_, ap}
 use Prim.Native.Nat.{ℕ, _+_, _*_, _%_, _^_}
 use native.Mathlib.Omega.{arith}
 use borrow.Author.Needs.{needs}
-use Rattle.fermat.proofs.Sizes.{shifted, bits-high, power-high}
+use Rattle.fermat.specs.FieldSizeLaws.{shifted, bits-high, power-high}
 use Rattle.fermat.proofs.field.modulus_of.Statement.{statement}
 use Rattle.fermat.proofs.field.modulus_of.Tie as tie
 

@@ -1,7 +1,7 @@
 -- `points_of` is N: the shift cuts nothing.
 use native.Mathlib.Omega.{arith}
 use borrow.Author.Needs.{needs}
-use Rattle.fermat.proofs.Sizes.{shifted}
+use Rattle.fermat.specs.FieldSizeLaws.{shifted}
 use Rattle.fermat.proofs.field.points_of.Statement.{statement}
 use Rattle.fermat.proofs.field.points_of.Tie as tie
 

@@ -3,7 +3,7 @@ use mathlib.Core.Path.{_≡_, ap₂}
 use Prim.Native.Nat.{_+_, _-_, _*_, _%_, _^_}
 use native.Mathlib.Omega.{arith}
 use borrow.Author.Needs.{needs}
-use Rattle.fermat.proofs.Sizes.{shifted, levels-le, rest-le, bits-high}
+use Rattle.fermat.specs.FieldSizeLaws.{shifted, levels-le, rest-le, bits-high}
 use Rattle.fermat.proofs.field.scale_of.Statement.{statement}
 use Rattle.fermat.proofs.field.scale_of.Tie as tie
 

@@ -8,9 +8,9 @@ use borrow.Author.Needs.{needs, sfits-of}
 use borrow.Author.Tests.{not-true, not-false}
 use denote.Ref.{now}
 use mir.Facts.{toZ-ofZ}
+use Rattle.algebra.specs.Every.{every}
+use Rattle.algebra.specs.EveryLaws.{every-fails, every-holds}
 use Rattle.layer.specs.Shape.{kernelCount}
-use Rattle.layer.specs.Load.{every}
-use Rattle.layer.specs.EveryLaws.{every-fails, every-holds}
 use Rattle.join.specs.Joined.{joinedLayer, joinedAt}
 use Rattle.join.specs.Answer.{fits, weightsFit}
 use Rattle.join.proofs.checks.weights_fit.Statement.{statement}

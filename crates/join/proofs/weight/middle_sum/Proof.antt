@@ -23,10 +23,10 @@ module _ (c : tie.Start) where
   to-inside = digits-lt (c .pre .1 .0 .1) (c .pre .1 .0 .2)
 
   from-few : c .args .first .outputs * c .args .first .inputs ≤ 4096
-  from-few = mul-le-mul {n₂ = 64} {m₂ = 64} (c .pre .0 .one .outputs-high) (c .pre .0 .one .inputs-high)
+  from-few = mul-le-mul {n₂ = 64} {m₂ = 64} (c .pre .0 .first-kept .outputs-high) (c .pre .0 .first-kept .inputs-high)
 
   to-few : c .args .second .outputs * c .args .first .outputs ≤ 4096
-  to-few = mul-le-mul {n₂ = 64} {m₂ = 64} (c .pre .0 .two .outputs-high) (c .pre .0 .one .outputs-high)
+  to-few = mul-le-mul {n₂ = 64} {m₂ = 64} (c .pre .0 .second-kept .outputs-high) (c .pre .0 .first-kept .outputs-high)
 
   -- the second kernel's planes, counted with the first's channels
   second-count : c .args .second .outputs * c .args .first .outputs * (c .args .second .side * c .args .second .side) ≡ kernelCount (c .args .second)
@@ -58,13 +58,13 @@ plane-of-requires : tie.Need-plane-of-requires
 plane-of-requires c κs =
     let s = c .before .before .before .before in
     let l : s .args .n * s .args .first .inputs + s .args .place .input ≤ 4096 = omega (arith, from-inside s, from-few s) in
-    (s .pre .0 .one .side-high, l)
+    (s .pre .0 .first-kept .side-high, l)
 
 plane-of-requires-2 : tie.Need-plane-of-requires-2
 plane-of-requires-2 c κs =
     let s = c .before .before .before .before .before in
     let l : s .args .place .output * s .args .first .outputs + s .args .n ≤ 4096 = omega (arith, to-inside s, to-few s) in
-    (s .pre .0 .two .side-high, l)
+    (s .pre .0 .second-kept .side-high, l)
 
 plane-sum-requires : tie.Need-plane-sum-requires
 plane-sum-requires c κs =
@@ -73,12 +73,12 @@ plane-sum-requires c κs =
     let second = s .args .second in
     rw (c .before .plane-of .ensures, c .plane-of2 .ensures) (
       record {
-        first-held = rw (s .pre .0 .one .weights-are) (part-ends _ (first .outputs * first .inputs) (first .side * first .side) (from-inside s));
+        first-held = rw (s .pre .0 .first-kept .weights-are) (part-ends _ (first .outputs * first .inputs) (first .side * first .side) (from-inside s));
         second-held =
-            rw (s .pre .0 .two .weights-are, ← (second-count s))
+            rw (s .pre .0 .second-kept .weights-are, ← (second-count s))
             (part-ends _ (second .outputs * first .outputs) (second .side * second .side) (to-inside s));
-        side-high = s .pre .0 .one .side-high;
-        other-low = s .pre .0 .two .filter .side-low;
+        side-high = s .pre .0 .first-kept .side-high;
+        other-low = s .pre .0 .second-kept .filter .side-low;
       },
       s .pre .1 .1,
     )

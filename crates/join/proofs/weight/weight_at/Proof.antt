@@ -20,22 +20,22 @@ abbrev μ-loop : tie.MeasureT-loop
 μ-loop first first-kernel second second-kernel p place total₀ n₀ total n = first .outputs - n
 
 joined-layer-requires : tie.Need-joined-layer-requires Inv-loop μ-loop
-joined-layer-requires c κs = (c .pre .0 .one .filter .side-low, c .pre .0 .one .side-high, c .pre .0 .two .side-high)
+joined-layer-requires c κs = (c .pre .0 .first-kept .filter .side-low, c .pre .0 .first-kept .side-high, c .pre .0 .second-kept .side-high)
 
 abbrev joined-side : tie.Start Inv-loop μ-loop → ℕ
 joined-side s = s .args .first .side + s .args .second .side - 1
 
 side-low : (s : tie.Start Inv-loop μ-loop) → 1 ≤ joined-side s
-side-low s = omega (arith, s .pre .0 .one .filter .side-low, s .pre .0 .two .filter .side-low)
+side-low s = omega (arith, s .pre .0 .first-kept .filter .side-low, s .pre .0 .second-kept .filter .side-low)
 
 side-high : (s : tie.Start Inv-loop μ-loop) → joined-side s ≤ 21
-side-high s = omega (arith, s .pre .0 .one .side-high, s .pre .0 .two .side-high)
+side-high s = omega (arith, s .pre .0 .first-kept .side-high, s .pre .0 .second-kept .side-high)
 
 area-low : (s : tie.Start Inv-loop μ-loop) → 1 ≤ joined-side s * joined-side s
 area-low s = mul-le-mul {n₁ = 1} {m₁ = 1} (side-low s) (side-low s)
 
 place-of-requires : tie.Need-place-of-requires Inv-loop μ-loop
-place-of-requires c κs = rw (c .joined-layer .ensures) (c .before .pre .0 .one .inputs-low, side-low (c .before), side-high (c .before))
+place-of-requires c κs = rw (c .joined-layer .ensures) (c .before .pre .0 .first-kept .inputs-low, side-low (c .before), side-high (c .before))
 
 -- the place is that of p
 placed-at : (c : tie.After-place-of Inv-loop μ-loop) →
@@ -47,12 +47,12 @@ loop-holds c = (omega arith, total-from 0 (λ i l. absurd (omega arith)))
 
 -- and its channels are in range
 input-inside : (c : tie.After-place-of Inv-loop μ-loop) → c .place-of .result .input < c .before .before .args .first .inputs
-input-inside c = rw (placed-at c) (mod-lt _ (c .before .before .pre .0 .one .inputs-low))
+input-inside c = rw (placed-at c) (mod-lt _ (c .before .before .pre .0 .first-kept .inputs-low))
 
 output-inside : (c : tie.After-place-of Inv-loop μ-loop) → c .place-of .result .output < c .before .before .args .second .outputs
 output-inside c =
     let s = c .before .before in
-    rw (placed-at c) (div-lt-iff-lt-mul (s .pre .0 .one .inputs-low) .1 (div-lt-iff-lt-mul (area-low s) .1 (s .pre .1)))
+    rw (placed-at c) (div-lt-iff-lt-mul (s .pre .0 .first-kept .inputs-low) .1 (div-lt-iff-lt-mul (area-low s) .1 (s .pre .1)))
 
 -- its row and column too
 row-inside : (c : tie.After-place-of Inv-loop μ-loop) → let a = c .before .before .args in
@@ -82,7 +82,7 @@ add-total : tie.Need-add-total Inv-loop μ-loop
 add-total c =
     let turn = c .before .before .before in
     let (is, small) = c .middle-sum .ensures in
-    let few = turn .before .before .before .pre .0 .one .outputs-high in
+    let few = turn .before .before .before .pre .0 .first-kept .outputs-high in
     total-fits (turn .loop .inv .1) (c .middle-sum .result) is small (omega (arith, few))
 
 add-n : tie.Need-add-n Inv-loop μ-loop
@@ -95,7 +95,7 @@ loop-again : tie.Need-loop-again Inv-loop μ-loop
 loop-again c =
     let turn = c .before .before .before in
     let (is, small) = c .middle-sum .ensures in
-    let few = turn .before .before .before .pre .0 .one .outputs-high in
+    let few = turn .before .before .before .pre .0 .first-kept .outputs-high in
     (omega arith, total-next (turn .loop .inv .1) (c .middle-sum .result) is small (omega (arith, few)))
 
 returns : tie.Need-returns Inv-loop μ-loop
@@ -109,7 +109,7 @@ returns c =
     let last : loop .n ≡ a .first .outputs = omega arith in
     let made = rw (last, placed-at placed) at (total .is) in (
       made ∙ sum-cong integers (a .first .outputs) _ _ (λ n _. plane-is (a .first .side) (a .second .side) _ _ _ _ _ _),
-      omega (arith, total .small, s .pre .0 .one .outputs-high),
+      omega (arith, total .small, s .pre .0 .first-kept .outputs-high),
     )
 
 pub weight-at-spec : {M : Type 1} → statement M

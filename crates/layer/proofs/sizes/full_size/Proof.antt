@@ -4,8 +4,8 @@ use native.Mathlib.Nat.{div-le-self}
 use native.Mathlib.Omega.{arith}
 use borrow.Author.Needs.{needs}
 use borrow.Author.Tests.{eq-eqb, ne-eqb}
+use Rattle.layer.specs.PlannedLaws.{conv-room, tconv-room, strides-high}
 use Rattle.layer.specs.Shape.{convSize, tconvSize}
-use Rattle.layer.specs.ChecksLaws.{conv-room, tconv-room, strides-high}
 use Rattle.layer.proofs.sizes.full_size.Statement.{statement}
 use Rattle.layer.proofs.sizes.full_size.Tie as tie
 

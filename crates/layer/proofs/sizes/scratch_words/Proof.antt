@@ -4,7 +4,7 @@ use Prim.Native.Nat.{ℕ, _*_, _≤_}
 use native.Mathlib.Nat.{mul-le-mul}
 use native.Mathlib.Omega.{arith}
 use borrow.Author.Needs.{needs}
-use Rattle.layer.specs.TileSizes.{length-high}
+use Rattle.layer.specs.TileSizeLaws.{length-high}
 use Rattle.layer.proofs.sizes.scratch_words.Statement.{statement}
 use Rattle.layer.proofs.sizes.scratch_words.Tie as tie
 

@@ -2,7 +2,7 @@
 use native.Mathlib.Omega.{arith}
 use borrow.Author.Needs.{needs}
 use borrow.Author.Tests.{eq-eqb, ne-eqb}
-use Rattle.layer.specs.TileSizes.{steps-high}
+use Rattle.layer.specs.TileSizeLaws.{steps-high}
 use Rattle.layer.proofs.sizes.span_of.Statement.{statement}
 use Rattle.layer.proofs.sizes.span_of.Tie as tie
 

@@ -1,7 +1,7 @@
 -- `tile_side` is L: K is at most N.
 use native.Mathlib.Omega.{arith}
 use borrow.Author.Needs.{needs}
-use Rattle.layer.specs.TileSizes.{length-low}
+use Rattle.layer.specs.TileSizeLaws.{length-low}
 use Rattle.layer.proofs.sizes.tile_side.Statement.{statement}
 use Rattle.layer.proofs.sizes.tile_side.Tie as tie
 

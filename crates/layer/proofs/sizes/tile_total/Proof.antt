@@ -3,7 +3,7 @@ use Prim.Native.Nat.{_*_, _≤_}
 use native.Mathlib.Nat.{mul-le-mul}
 use native.Mathlib.Omega.{arith}
 use Rattle.layer.specs.Shape.{tileTotal}
-use Rattle.layer.specs.TileSizes.{rows-wanted, columns-wanted, across-high}
+use Rattle.layer.specs.TileSizeLaws.{rows-wanted, columns-wanted, across-high}
 use Rattle.layer.proofs.sizes.tile_total.Statement.{statement}
 use Rattle.layer.proofs.sizes.tile_total.Tie as tie
 

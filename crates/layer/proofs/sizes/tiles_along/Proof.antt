@@ -1,18 +1,18 @@
 -- `tiles_along` divides the span by the tile's side; both are small.
 use native.Mathlib.Omega.{arith}
 use borrow.Author.Needs.{needs}
-use Rattle.layer.specs.TileSizes.{tile-side-low, tile-side-high, span-high}
+use Rattle.layer.specs.TileSizeLaws.{tile-side-low, tile-side-high, span-high}
 use Rattle.layer.proofs.sizes.tiles_along.Statement.{statement}
 use Rattle.layer.proofs.sizes.tiles_along.Tie as tie
-
-tile-side-requires : tie.Need-tile-side-requires
-tile-side-requires c κs = search needs
 
 span-of-requires : tie.Need-span-of-requires
 span-of-requires c κs = search needs
 
-tiles-across-requires : tie.Need-tiles-across-requires
-tiles-across-requires c κs =
+tile-side-requires : tie.Need-tile-side-requires
+tile-side-requires c κs = search needs
+
+ceiling-div-requires : tie.Need-ceiling-div-requires
+ceiling-div-requires c κs =
     let w = c .before .before .pre in
     let low = tile-side-low _ (w .shape) in
     let high = tile-side-high _ (w .shape) in
@@ -23,4 +23,4 @@ returns : tie.Need-returns
 returns c = cc
 
 pub tiles-along-spec : {M : Type 1} → statement M
-tiles-along-spec = tie.close (tie.spec tile-side-requires span-of-requires tiles-across-requires returns)
+tiles-along-spec = tie.close (tie.spec span-of-requires tile-side-requires ceiling-div-requires returns)

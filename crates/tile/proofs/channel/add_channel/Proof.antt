@@ -9,9 +9,9 @@ use lib.Seq.{length-take-le}
 use borrow.Author.Needs.{needs}
 use borrow.Rule.Slice.PartMut.{midOf, putMid, same-len-mid}
 use denote.Ref.{now}
-use Rattle.layer.specs.Load.{planeOf}
-use Rattle.layer.specs.LoadLaws.{plane-below}
-use Rattle.layer.specs.TileSizes.{length-high}
+use Rattle.layer.specs.Direct.{planeOf}
+use Rattle.layer.specs.TileSizeLaws.{length-high}
+use Rattle.load.specs.LoadLaws.{plane-below}
 use Rattle.tile.specs.Channel.{area, KernelReady}
 use Rattle.tile.proofs.KernelReady.{kernel-lent}
 use Rattle.tile.proofs.Adding.{Lending, Transformed, transformed, accumulate-asks, kernel-added, added-next}
@@ -40,14 +40,14 @@ module _ (c : tie.After-points-of) where
 points-of-requires : tie.Need-points-of-requires
 points-of-requires c κs = search needs
 
-mul-one : tie.Need-mul-one
-mul-one c = omega (arith, area-high c)
+mul-area : tie.Need-mul-area
+mul-area c = omega (arith, area-high c)
 
-mul-two : tie.Need-mul-two
-mul-two c = omega (arith, area-high c)
+mul-window : tie.Need-mul-window
+mul-window c = omega (arith, area-high c)
 
-mul-three : tie.Need-mul-three
-mul-three c = omega (arith, area-high c)
+mul-end : tie.Need-mul-end
+mul-end c = omega (arith, area-high c)
 
 planes-to-requires : tie.Need-planes-to-requires
 planes-to-requires c κs =
@@ -125,16 +125,16 @@ module _ (c : tie.After-ready-kernel) where
   kernel-length : length ks ≡ 2 * area (start sizes .args .layer)
   kernel-length = c .ready-kernel .kept .0 ∙ kernel-part sizes
 
-  abbrev one : ℕ
-  one = n sizes * n sizes
+  abbrev part : ℕ
+  part = n sizes * n sizes
 
-  scratch-room : 3 * one ≤ length (putMid one (3 * one - one) (now (start sizes .args .scratch)) ks)
+  scratch-room : 3 * part ≤ length (putMid part (3 * part - part) (now (start sizes .args .scratch)) ks)
   scratch-room =
-      omega (arith, room sizes, same-len-mid one (3 * one - one) (now (start sizes .args .scratch)) ks (c .ready-kernel .kept .0))
+      omega (arith, room sizes, same-len-mid part (3 * part - part) (now (start sizes .args .scratch)) ks (c .ready-kernel .kept .0))
 
-  window-part : length (midOf (2 * one) (3 * one - 2 * one) (putMid one (3 * one - one) (now (start sizes .args .scratch)) ks))
+  window-part : length (midOf (2 * part) (3 * part - 2 * part) (putMid part (3 * part - part) (now (start sizes .args .scratch)) ks))
       ≡ area (start sizes .args .layer)
-  window-part = part-length (2 * one) (3 * one - 2 * one) _ (omega (arith, scratch-room)) ∙ omega (arith, area-is sizes)
+  window-part = part-length (2 * part) (3 * part - 2 * part) _ (omega (arith, scratch-room)) ∙ omega (arith, area-is sizes)
 
 mul-window-spectrum : tie.Need-mul-window-spectrum
 mul-window-spectrum c = omega (arith, area-high (sizes (c .before .before)))
@@ -218,9 +218,9 @@ add-channel-spec =
     tie.close
     (tie.spec
     points-of-requires
-    mul-one
-    mul-two
-    mul-three
+    mul-area
+    mul-window
+    mul-end
     planes-to-requires
     mul-plane
     add-plane

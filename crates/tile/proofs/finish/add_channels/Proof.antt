@@ -59,12 +59,12 @@ loop-again : tie.Need-loop-again Inv-loop μ-loop
 loop-again c =
     let s = c .before .before .before .before .before .before .before .before in
     let loop = c .before .before .before .before .before .before .loop in
-    let one = c .before .before .add-channel .ensures in
+    let added = c .before .before .add-channel .ensures in
     let next : loop .c + 1 - 1 ≡ loop .c = omega arith in (
       omega arith,
-      one .0 (now (s .args .scratch)) (loop .inv .1),
+      added .0 (now (s .args .scratch)) (loop .inv .1),
       λ none _. absurd (omega arith),
-      λ _. rw next (one .1),
+      λ _. rw next (added .1),
     )
 
 same-length : tie.Need-same-length Inv-loop μ-loop

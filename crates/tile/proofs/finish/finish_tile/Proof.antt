@@ -11,12 +11,13 @@ use borrow.Rule.Slice.PartMut.{putMid, postOf}
 use denote.Ref.{now}
 use Rattle.algebra.specs.Places.{Changed}
 use Rattle.algebra.specs.PlacesLaws.{written-as, changed-written, changed-part, changed-again}
+use Rattle.spectrum.specs.Value.{offsetOf, Storable}
+use Rattle.layer.specs.Planned.{Planned}
 use Rattle.layer.specs.Shape.{tileOf}
 use Rattle.layer.specs.Direct.{directAt}
-use Rattle.layer.specs.ChecksLaws.{Planned}
-use Rattle.layer.specs.TileSizes.{length-high}
+use Rattle.layer.specs.TileSizeLaws.{length-high}
+use Rattle.store.specs.Stored.{wordOf, storedAt}
 use Rattle.tile.specs.Channel.{area, KernelKept}
-use Rattle.tile.specs.Stored.{halfOf, wordOf, storedAt, Storable}
 use Rattle.tile.proofs.KernelReady.{kernel-left}
 use Rattle.tile.proofs.Finishing.{At, finished}
 use Rattle.tile.proofs.finish.finish_tile.Statement.{statement}
@@ -31,25 +32,25 @@ module _ (c : tie.After-points-of) where
   abbrev start : tie.Start
   start = c .before .before
 
-  abbrev one : ℕ
-  one = c .points-of .result * c .points-of .result
+  abbrev part : ℕ
+  part = c .points-of .result * c .points-of .result
 
-  area-is : one ≡ area (start .args .layer)
+  area-is : part ≡ area (start .args .layer)
   area-is = ap (λ (i : ℕ). i * i) (c .points-of .ensures)
 
-  area-high : one ≤ 4096
+  area-high : part ≤ 4096
   area-high =
       let most : c .points-of .result ≤ 64 = omega (arith, c .points-of .ensures, length-high (start .args .layer) (plan start .shape)) in
       mul-le-mul most most
 
-  room : 3 * one ≤ length (now (start .args .scratch))
+  room : 3 * part ≤ length (now (start .args .scratch))
   room = omega (arith, area-is, start .pre .0 .0 .scratch-low)
 
 points-of-requires : tie.Need-points-of-requires
 points-of-requires c κs = plan (c .before) .shape .field-high
 
-mul-one : tie.Need-mul-one
-mul-one c = omega (arith, area-high c)
+mul-area : tie.Need-mul-area
+mul-area c = omega (arith, area-high c)
 
 origin-of-requires : tie.Need-origin-of-requires
 origin-of-requires c κs = (plan (start c), start c .pre .0 .1)
@@ -77,7 +78,7 @@ add-channels-requires c κs =
         λ i h. none .here i (omega (arith, room sizes, area-is sizes)) (omega arith, omega (arith, area-is sizes)),
         λ kept. (
           s .pre .1 kept .0,
-          kernel-left (rw (sym (origin .origin-of .ensures .0 .0)) at (s .pre .1 kept .1)) (omega (arith, area-is sizes)) (changed-written 0 (one sizes - 0) none),
+          kernel-left (rw (sym (origin .origin-of .ensures .0 .0)) at (s .pre .1 kept .1)) (omega (arith, area-is sizes)) (changed-written 0 (part sizes - 0) none),
         ),
       ),
     )
@@ -97,16 +98,16 @@ module _ (c : tie.After-add-channels) where
   ys = c .add-channels .last .0
 
   abbrev lent : List ℕ
-  lent = take (one sizes - 0) ys
+  lent = take (part sizes - 0) ys
 
   length-is : length ys ≡ length (now (given .args .scratch))
   length-is = c .add-channels .ensures .0 .changed .size ∙ cleared .clear .ensures .size
 
-  lent-le : one sizes - 0 ≤ length ys
+  lent-le : part sizes - 0 ≤ length ys
   lent-le = omega (arith, length-is, room sizes)
 
   lent-length : length lent ≡ area (given .args .layer)
-  lent-length = length-take-le (one sizes - 0) ys lent-le ∙ omega (arith, area-is sizes)
+  lent-length = length-take-le (part sizes - 0) ys lent-le ∙ omega (arith, area-is sizes)
 
   at-tile : At (given .args .layer) (given .args .tile) (cleared .before .before .origin-of .result)
   at-tile =
@@ -140,7 +141,7 @@ module _ (c : tie.After-recover-tile) where
   rs = c .recover-tile .last .0
 
   abbrev rest : List ℕ
-  rest = postOf 0 (one (sizes sum) - 0) (ys sum)
+  rest = postOf 0 (part (sizes sum) - 0) (ys sum)
 
   words-length : length rs ≡ area (source .args .layer)
   words-length = c .recover-tile .kept .0 ∙ lent-length sum
@@ -148,13 +149,13 @@ module _ (c : tie.After-recover-tile) where
   -- what Finishing says of a place that the tile holds
   held : let g = source .args in
       (p : ℕ) → p < length (now (g .output)) → tileOf (g .layer) p ≡ g .tile
-      → Storable (halfOf (g .layer .field)) (wordOf (g .layer) (g .tile) p (rs ++ rest))
+      → Storable (offsetOf (g .layer .field)) (wordOf (g .layer) (g .tile) p (rs ++ rest))
       × (storedAt (g .layer) (g .tile) (rs ++ rest) p ≡ directAt (g .layer) (now (g .map)) (now (g .kernel)) p)
   held =
       let g = source .args in
       finished (g .layer) (now (g .map)) (now (g .kernel)) (length (now (g .output))) (length (now (g .scratch))) (g .tile) (source .pre .0 .0)
       _ (at-tile sum) _ (ys sum) (lent sum) rs rest (sum .add-channels .ensures .0)
-      (λ i h. getD-take (one (sizes sum) - 0) (ys sum) i 0 (omega (arith, area-is (sizes sum)))) (c .recover-tile .ensures) words-length
+      (λ i h. getD-take (part (sizes sum) - 0) (ys sum) i 0 (omega (arith, area-is (sizes sum)))) (c .recover-tile .ensures) words-length
 
 store-tile-requires : tie.Need-store-tile-requires
 store-tile-requires c κs =
@@ -172,7 +173,7 @@ returns : tie.Need-returns
 returns c =
     let tile = c .before .before .before .before .before .before in
     let all = sum tile in
-    let k = one (sizes all) - 0 in
+    let k = part (sizes all) - 0 in
     let g = source tile .args in
     let a = area (g .layer) in
     let none = changed-written 0 k (cleared all .clear .ensures) in
@@ -193,7 +194,7 @@ finish-tile-spec =
     tie.close
     (tie.spec
     points-of-requires
-    mul-one
+    mul-area
     origin-of-requires
     clear-requires
     add-channels-requires

@@ -4,21 +4,23 @@ use Prim.Native.Nat.{ℕ, _+_, _*_, _-_, _≤_, _<_}
 use native.Mathlib.Nat.{mul-le-mul}
 use native.Mathlib.Omega.{arith}
 use borrow.Author.Needs.{needs}
+use Rattle.base.specs.NumberLaws.{ceiling-starts}
+use Rattle.base.specs.Number.{ceilingDiv}
+use Rattle.layer.specs.Planned.{InRange}
 use Rattle.layer.specs.declared.shape.Layer.{Layer}
-use Rattle.layer.specs.Shape.{tileSide, gridStep, span, tilesAcross}
-use Rattle.layer.specs.ChecksLaws.{InRange}
-use Rattle.layer.specs.TileSizes.{rows-wanted, columns-wanted, across-high, tile-side-low}
-use Rattle.layer.specs.TileLaws.{planned-tiled, span-is, step-range, across-starts, tileRow, tileColumn, tile-channel-lt}
-use Rattle.tile.proofs.Sizes.{tile-row-lt, tile-column-lt}
+use Rattle.layer.specs.Shape.{tileSide, gridStep, span, tileRow, tileColumn}
+use Rattle.layer.specs.TileSizeLaws.{rows-wanted, columns-wanted, across-high, tile-side-low}
+use Rattle.layer.specs.TileLaws.{planned-tiled, span-is, step-range, tile-channel-lt}
+use Rattle.layer.specs.PlaceLaws.{tile-row-lt, tile-column-lt}
 use Rattle.tile.proofs.origin.origin_of.Statement.{statement}
 use Rattle.tile.proofs.origin.origin_of.Tie as tie
 
 -- the grid place of a tile that begins before the last of `count` outputs
 start-high : (l : Layer) (count first index : ℕ) → InRange l → 1 ≤ count → first + count ≤ 2055
-    → index < tilesAcross (tileSide l) (span l count) → first * gridStep l + index * tileSide l ≤ 10000
+    → index < ceilingDiv (span l count) (tileSide l) → first * gridStep l + index * tileSide l ≤ 10000
 start-high l count first index r some end before =
     let last : (first + (count - 1)) * gridStep l ≤ 2054 * 4 = mul-le-mul {n₂ = 2054} {m₂ = 4} (omega arith) (step-range l r .1) in
-    let begins : index * tileSide l < span l count = across-starts (tileSide l) (span l count) index (omega (arith, tile-side-low l r)) before in
+    let begins : index * tileSide l < span l count = ceiling-starts (span l count) (tileSide l) index (omega (arith, tile-side-low l r)) before in
     omega (arith, span-is l count some)
 
 place-of-requires : tie.Need-place-of-requires

@@ -5,10 +5,12 @@ use native.Mathlib.Omega.{arith}
 use lib.ListN.{length}
 use borrow.Author.Needs.{needs}
 use denote.Ref.{now}
+use Rattle.layer.specs.Planned.{Planned}
 use Rattle.layer.specs.Shape.{scratchWords, tileTotal}
-use Rattle.layer.specs.Engine.{tileEngine}
-use Rattle.layer.specs.ChecksLaws.{Planned, Callable, job-callable}
-use Rattle.layer.specs.EngineLaws.{tile-lawful}
+use Rattle.checks.specs.Callable.{Callable}
+use Rattle.checks.specs.Engine.{tileEngine}
+use Rattle.checks.specs.ChecksLaws.{job-callable}
+use Rattle.checks.specs.EngineLaws.{tile-lawful}
 use Rattle.engine.specs.Call.{callCode}
 use Rattle.engine.proofs.Outcomes.{refused-call, accepted-call}
 use Rattle.engine.proofs.Scratch.{changed-cleared}

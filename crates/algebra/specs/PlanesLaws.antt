@@ -1,0 +1,26 @@
+-- Planes in a row, read back: a cell of them is the value at its plane, row and column, and these values are all there is to them.
+use mathlib.Core.Path.{_≡_, _∙_}
+use Prim.Native.Nat.{ℕ, _+_, _*_, _%_, _<_}
+use native.Mathlib.Nat.{mod-lt, div-lt-iff-lt-mul, mul-le-mul}
+use native.Mathlib.Omega.{arith}
+use lib.Arith.{digits-lt, digits-div, digits-mod}
+use lib.IntN.{ℤ, pos}
+use Rattle.algebra.specs.Planes.{cell, stacked}
+use Rattle.algebra.specs.PlacesLaws.{getD-table, table-same}
+
+pub cell-stacked : (planes A B : ℕ) (value : ℕ → ℕ → ℕ → ℤ) (k i j : ℕ) → k < planes → i < A → j < B
+    → cell A B (stacked planes A B value) k i j ≡ value k i j
+cell-stacked planes A B value k i j plane row column =
+    let inner : i * B + j < A * B = digits-lt row column in
+    let flat : (k * A + i) * B + j ≡ k * (A * B) + (i * B + j) = omega arith in
+    rw flat
+    (getD-table (pos 0) (planes * (A * B)) _ (k * (A * B) + (i * B + j)) (digits-lt plane inner)
+    ∙ rw (digits-div k inner, digits-mod k inner, digits-div i column, digits-mod i column))
+
+-- planes are the same where they are at every row and column
+pub stacked-same : (planes A B : ℕ) {u v : ℕ → ℕ → ℕ → ℤ} → 0 < A → 0 < B
+    → ((k i j : ℕ) → k < planes → i < A → j < B → u k i j ≡ v k i j) → stacked planes A B u ≡ stacked planes A B v
+stacked-same planes A B some more same =
+    let area : 0 < A * B = mul-le-mul {n₁ = 1} {m₁ = 1} some more in
+    table-same (planes * (A * B)) (λ p l.
+    same _ _ _ (div-lt-iff-lt-mul area .1 l) (div-lt-iff-lt-mul more .1 (mod-lt p area)) (mod-lt (p % (A * B)) more))

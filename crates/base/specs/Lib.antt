@@ -1,0 +1,6 @@
+-- definitions
+pub mod Rules
+pub mod Number
+-- laws
+pub mod RulesLaws
+pub mod NumberLaws

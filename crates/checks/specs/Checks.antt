@@ -1,0 +1,78 @@
+-- 01, "Returned by number": what a plan, a run and a job answer, each by its list of rules in table order. Engines differ in three figures of
+-- them: the last field that is taken, the words of scratch and the total of parts.
+use mathlib.Core.List.{List, [], _∷_, _++_}
+use Prim.Native.Nat.{ℕ, zero, suc}
+use lib.IntN.{ℤ}
+use Rattle.base.specs.Rules.{Rule, firstBroken}
+use Rattle.layer.specs.declared.shape.Layer.{Layer}
+use Rattle.layer.specs.declared.shape.Plan.{Plan}
+use Rattle.layer.specs.Shape.{fullHeight, fullWidth}
+use Rattle.checks.specs.Engine.{Engine}
+use Rattle.checks.specs.Rules.{kindRule, fieldRule, channelsRule, mapRule, sideRule, strideRule, paddingRule, outputRule, cropRule, mapLengthRule, kernelLengthRule, outputLengthRule, scratchRule, peakRule, valuesRule, loadsRule, indexRule}
+
+-- ---- lists of rules
+
+-- 1 to 4: the kind, the field, the channels and the map
+abbrev pub mapRules : (last : ℕ) → Layer → List Rule
+mapRules last l = kindRule l ∷ fieldRule l last ∷ channelsRule l ∷ mapRule l ∷ []
+
+-- 5 to 7: the kernel, its stride and its padding
+abbrev pub kernelRules : Layer → List Rule
+kernelRules l = sideRule l ∷ strideRule l ∷ paddingRule l ∷ []
+
+-- 1 to 7
+abbrev pub shapeRules : (last : ℕ) → Layer → List Rule
+shapeRules last l = mapRules last l ++ kernelRules l
+
+-- 8 and 9: the full output and the crop
+abbrev pub outputRules : Layer → List Rule
+outputRules l = outputRule l ∷ cropRule l ∷ []
+
+-- 10 to 14: the lengths of what is lent, and the peak
+abbrev pub lentRules : (words : ℕ) → Layer → (map kernel : List ℤ) → (output scratch : ℕ) → List Rule
+lentRules words l map kernel output scratch =
+    mapLengthRule l map ∷ kernelLengthRule l kernel ∷ outputLengthRule l output ∷ scratchRule words scratch ∷ peakRule l ∷ []
+
+-- 15 and 16: the values of the map and of the kernel
+abbrev pub valueRules : Layer → (map kernel : List ℤ) → List Rule
+valueRules l map kernel = valuesRule l map ∷ loadsRule l kernel ∷ []
+
+-- 10 to 16
+abbrev pub callRules : (words : ℕ) → Layer → (map kernel : List ℤ) → (output scratch : ℕ) → List Rule
+callRules words l map kernel output scratch = lentRules words l map kernel output scratch ++ valueRules l map kernel
+
+-- 17
+abbrev pub jobRules : (total next : ℕ) → List Rule
+jobRules total next = indexRule total next ∷ []
+
+-- ---- the answers
+
+module _ (engine : Engine) where
+  -- the planner makes 1 to 9, a run 1 to 16, a job 1 to 17
+  unfoldable pub planCode : Layer → ℕ
+  planCode l = firstBroken (shapeRules (engine .last-field) l ++ outputRules l)
+
+  unfoldable pub runCode : Layer → (map kernel : List ℤ) → (output scratch : ℕ) → ℕ
+  runCode l map kernel output scratch =
+      firstBroken (shapeRules (engine .last-field) l ++ outputRules l ++ callRules (engine .words l) l map kernel output scratch)
+
+  unfoldable pub jobCode : Layer → ℕ → (map kernel : List ℤ) → (output scratch : ℕ) → ℕ
+  jobCode l next map kernel output scratch =
+      firstBroken (shapeRules (engine .last-field) l ++ outputRules l
+      ++ callRules (engine .words l) l map kernel output scratch ++ jobRules (engine .total l) next)
+
+  -- ---- the plan
+
+  -- the figures of a refusal are 0
+  abbrev pub figures : (code : ℕ) → Layer → Plan
+  figures zero l = record {
+    code = 0;
+    height = fullHeight l;
+    width = fullWidth l;
+    tiles = engine .total l;
+    scratch = engine .words l;
+  }
+  figures (suc code) l = record { code = suc code; height = 0; width = 0; tiles = 0; scratch = 0 }
+
+  unfoldable pub planOf : Layer → Plan
+  planOf l = figures (planCode l) l

@@ -1,0 +1,12 @@
+-- definitions
+pub mod Engine
+pub mod Rules
+pub mod Checks
+pub mod Callable
+pub mod FormerLoad
+-- laws
+pub mod ChecksLaws
+pub mod EngineLaws
+pub mod FormerLoadLaws
+pub mod Charts
+pub mod LoadCases

@@ -1,0 +1,82 @@
+-- 01, "Returned by number": the rules 1 to 17, one definition each. A rule holds where its number is not returned. The lists of the rules that a
+-- plan, a run and a job are checked by are in `Checks`.
+use mathlib.Core.Bool.{_&&_}
+use mathlib.Core.List.{List}
+use Prim.Native.Nat.{ℕ}
+use lib.Dec.{leb, ltb, eqb}
+use lib.IntN.{ℤ}
+use lib.ListN.{length}
+use Rattle.base.specs.Rules.{Rule, rule, inside}
+use Rattle.layer.specs.declared.shape.Layer.{Layer}
+use Rattle.layer.specs.Shape.{mapCount, kernelCount, outputCount, fullHeight, fullWidth}
+use Rattle.layer.specs.Planned.{hasOutput, cropFits}
+use Rattle.load.specs.Load.{loadsFit, withinPeak}
+
+module _ (l : Layer) where
+  -- 1: the kind is CONV or TCONV
+  abbrev pub kindRule : Rule
+  kindRule = rule 1 (inside 0 1 (l .kind))
+
+  -- 2: the field is 4 or one up to the last that is taken
+  abbrev pub fieldRule : (last : ℕ) → Rule
+  fieldRule last = rule 2 (inside 4 last (l .field))
+
+  -- 3: C and M are 1 to 64
+  abbrev pub channelsRule : Rule
+  channelsRule = rule 3 (inside 1 64 (l .inputs) && inside 1 64 (l .outputs))
+
+  -- 4: H and W are 1 to 512
+  abbrev pub mapRule : Rule
+  mapRule = rule 4 (inside 1 512 (l .height) && inside 1 512 (l .width))
+
+  -- 5: K is 1 to 11
+  abbrev pub sideRule : Rule
+  sideRule = rule 5 (inside 1 11 (l .side))
+
+  -- 6: S is 1 to 4
+  abbrev pub strideRule : Rule
+  strideRule = rule 6 (inside 1 4 (l .stride))
+
+  -- 7: P is 0 to K − 1
+  abbrev pub paddingRule : Rule
+  paddingRule = rule 7 (ltb (l .padding) (l .side))
+
+  -- 8: in CONV, H + 2P and W + 2P are not below K; in TCONV, E and F are not below 1
+  abbrev pub outputRule : Rule
+  outputRule = rule 8 (hasOutput l (l .height) && hasOutput l (l .width))
+
+  -- 9: the crop keeps some rows and columns, and lies in the full output
+  abbrev pub cropRule : Rule
+  cropRule = rule 9 (cropFits (l .top) (l .rows) (fullHeight l) && cropFits (l .left) (l .columns) (fullWidth l))
+
+  -- 10: the map has C·H·W values
+  abbrev pub mapLengthRule : (map : List ℤ) → Rule
+  mapLengthRule map = rule 10 (eqb (length map) (mapCount l))
+
+  -- 11: the kernel has M·C·K² weights
+  abbrev pub kernelLengthRule : (kernel : List ℤ) → Rule
+  kernelLengthRule kernel = rule 11 (eqb (length kernel) (kernelCount l))
+
+  -- 12: the output has M·h·w places
+  abbrev pub outputLengthRule : (output : ℕ) → Rule
+  outputLengthRule output = rule 12 (eqb output (outputCount l))
+
+  -- 14: A is 1 to 32,767
+  abbrev pub peakRule : Rule
+  peakRule = rule 14 (inside 1 32767 (l .peak))
+
+  -- 15: no map value is beyond A
+  abbrev pub valuesRule : (map : List ℤ) → Rule
+  valuesRule map = rule 15 (withinPeak (l .peak) map)
+
+  -- 16: no output channel's load is above the limit
+  abbrev pub loadsRule : (kernel : List ℤ) → Rule
+  loadsRule kernel = rule 16 (loadsFit l kernel)
+
+-- 13: scratch has the words that are used
+abbrev pub scratchRule : (words scratch : ℕ) → Rule
+scratchRule words scratch = rule 13 (leb words scratch)
+
+-- 17: the job's index is not above the total
+abbrev pub indexRule : (total next : ℕ) → Rule
+indexRule total next = rule 17 (leb next total)

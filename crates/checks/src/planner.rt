@@ -1,0 +1,106 @@
+// The planner: the rules 1 to 9 in table order, and the figures of a layer that breaks none. It takes any fourteen numbers.
+use base::rules;
+use layer::shape::Layer;
+use layer::shape::Plan;
+use layer::sizes;
+ghost use mathlib.Core.Path.{_≡_};
+ghost use Rattle.base.specs.Rules.{firstBroken};
+ghost use Rattle.layer.specs.Planned.{hasOutput, cropFits, InRange, Extent};
+ghost use Rattle.checks.specs.Engine.{tileEngine};
+ghost use Rattle.checks.specs.Checks.{mapRules, kernelRules, outputRules, planCode, planOf};
+
+// The first of the rules 1 to 4 that is broken, or 0.
+fn map_code(layer: Layer) -> usize
+    ensures { λ r. ⌜ r ≡ firstBroken (mapRules 5 layer) ⌝ }
+{
+    let channels = rules::is_inside(1, 64, layer.inputs) & rules::is_inside(1, 64, layer.outputs);
+    let map = rules::is_inside(1, 512, layer.height) & rules::is_inside(1, 512, layer.width);
+    let code = rules::next(0, 1, rules::is_inside(0, 1, layer.kind));
+    let code = rules::next(code, 2, rules::is_inside(4, 5, layer.field));
+    let code = rules::next(code, 3, channels);
+    rules::next(code, 4, map)
+}
+
+// The first of the rules 5 to 7 that is broken, or 0.
+fn kernel_code(layer: Layer) -> usize
+    ensures { λ r. ⌜ r ≡ firstBroken (kernelRules layer) ⌝ }
+{
+    let code = rules::next(0, 5, rules::is_inside(1, 11, layer.side));
+    let code = rules::next(code, 6, rules::is_inside(1, 4, layer.stride));
+    rules::next(code, 7, layer.padding < layer.side)
+}
+
+// Whether rule 8 holds of the map's height or width.
+fn has_output(layer: Layer, size: usize) -> bool
+    requires { ⌜ Extent layer size ⌝ }
+    ensures { λ r. ⌜ r ≡ hasOutput layer size ⌝ }
+{
+    if layer.kind == 0 {
+        return layer.side <= size + 2 * layer.padding;
+    }
+    2 * layer.padding < (size - 1) * layer.stride + layer.side
+}
+
+// Whether rule 9 holds of the rows or columns. The sum may not fit a word, so it is not taken.
+fn crop_fits(first: usize, count: usize, full: usize) -> bool
+    ensures { λ r. ⌜ r ≡ cropFits first count full ⌝ }
+{
+    if count < 1 {
+        return false;
+    }
+    if full < count {
+        return false;
+    }
+    first <= full - count
+}
+
+// The first of the rules 8 and 9 that is broken, or 0.
+fn output_code(layer: Layer) -> usize
+    requires { ⌜ InRange layer ⌝ }
+    ensures { λ r. ⌜ r ≡ firstBroken (outputRules layer) ⌝ }
+{
+    let outputs = has_output(layer, layer.height) & has_output(layer, layer.width);
+    let code = rules::next(0, 8, outputs);
+    if code != 0 {
+        return code;
+    }
+    let height = sizes::full_size(layer, layer.height);
+    let width = sizes::full_size(layer, layer.width);
+    let rows = crop_fits(layer.top, layer.rows, height);
+    let columns = crop_fits(layer.left, layer.columns, width);
+    rules::next(0, 9, rows & columns)
+}
+
+// The first of the rules 1 to 9 that is broken, or 0.
+pub fn plan_code(layer: Layer) -> usize
+    ensures { λ r. ⌜ r ≡ planCode tileEngine layer ⌝ }
+{
+    let code = rules::first_code(map_code(layer), kernel_code(layer));
+    if code != 0 {
+        return code;
+    }
+    output_code(layer)
+}
+
+// The answer to the rules 1 to 9, with E, F, the tile total and 3N²; these are 0 where the layer is refused.
+pub fn plan(layer: Layer) -> Plan
+    ensures { λ r. ⌜ r ≡ planOf tileEngine layer ⌝ }
+{
+    let code = plan_code(layer);
+    if code != 0 {
+        return Plan {
+            code: code,
+            height: 0,
+            width: 0,
+            tiles: 0,
+            scratch: 0,
+        };
+    }
+    Plan {
+        code: 0,
+        height: sizes::full_size(layer, layer.height),
+        width: sizes::full_size(layer, layer.width),
+        tiles: sizes::tile_total(layer),
+        scratch: sizes::scratch_words(layer),
+    }
+}

@@ -1,8 +1,0 @@
--- 01's engine is lawful. It rests on the laws of tiles.
-use native.Mathlib.Omega.{arith}
-use Rattle.layer.specs.Engine.{tileEngine}
-use Rattle.layer.specs.ChecksLaws.{Lawful}
-use Rattle.layer.specs.TileLaws.{planned-tiled, tile-of-lt}
-
-pub tile-lawful : Lawful tileEngine
-tile-lawful = record { known = omega arith; covers = λ l plan p below. tile-of-lt l (planned-tiled l plan) p (omega arith) }

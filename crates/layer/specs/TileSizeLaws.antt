@@ -1,0 +1,40 @@
+-- Bounds of a layer's tile figures, so that arithmetic on them does not wrap. They rest on the ranges of `ChecksLaws`.
+use Prim.Native.Nat.{ℕ, _+_, _*_, _-_, _≤_}
+use native.Mathlib.Nat.{div-le-self, mul-le-mul}
+use native.Mathlib.Omega.{arith}
+use lib.Pow.{pow-mono}
+use Rattle.base.specs.Number.{ceilingDiv}
+use Rattle.layer.specs.PlannedLaws.{cond-le}
+use Rattle.layer.specs.Planned.{InRange, Planned, Wanted}
+use Rattle.layer.specs.declared.shape.Layer.{Layer}
+use Rattle.layer.specs.Shape.{isConv, transformLength, tileSide, span}
+
+module _ (l : Layer) (r : InRange l) where
+  pub length-low : 32 ≤ transformLength l
+  length-low = pow-mono {i = 5} {j = l .field + 1} (omega (arith, r .field-low))
+
+  pub length-high : transformLength l ≤ 64
+  length-high = pow-mono {i = l .field + 1} {j = 6} (omega (arith, r .field-high))
+
+  pub tile-side-low : 22 ≤ tileSide l
+  tile-side-low = omega (arith, length-low, r .side-high)
+
+  pub tile-side-high : tileSide l ≤ 64
+  tile-side-high = omega (arith, length-low, length-high, r .side-low, r .side-high)
+
+pub rows-wanted : (l : Layer) → Planned l → Wanted l (l .rows)
+rows-wanted l p = record { shape = p .shape; count-low = p .rows-low; count-high = omega (arith, p .rows-end, p .full-height-high) }
+
+pub columns-wanted : (l : Layer) → Planned l → Wanted l (l .columns)
+columns-wanted l p = record { shape = p .shape; count-low = p .columns-low; count-high = omega (arith, p .columns-end, p .full-width-high) }
+
+module _ (l : Layer) (count : ℕ) (w : Wanted l count) where
+  pub steps-high : (count - 1) * l .stride ≤ 8216
+  steps-high = mul-le-mul {n₂ = 2054} {m₂ = 4} (omega (arith, w .count-high)) (w .shape .stride-high)
+
+  pub span-high : span l count ≤ 8217
+  span-high = cond-le (isConv l) (omega (arith, steps-high)) (omega (arith, w .count-high))
+
+  pub across-high : ceilingDiv (span l count) (tileSide l) ≤ 8280
+  unfolding ceilingDiv
+  across-high = omega (arith, div-le-self (span l count + tileSide l - 1) (tileSide l), span-high, tile-side-high l (w .shape))

@@ -1,0 +1,4 @@
+mod Apart
+mod GroupSums
+mod KernelPlanes
+mod Peaks

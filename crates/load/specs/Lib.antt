@@ -1,0 +1,6 @@
+-- definitions
+pub mod Load
+pub mod Weights
+-- laws
+pub mod GroupLaws
+pub mod LoadLaws

@@ -1,0 +1,9 @@
+mod Pairs
+mod Stages
+mod Blocks
+mod Levels
+mod PassRows
+mod ForwardLanes
+mod InverseLanes
+mod LanePasses
+mod Exchange

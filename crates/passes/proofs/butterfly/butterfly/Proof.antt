@@ -1,0 +1,116 @@
+-- Each arm is its law of Words, for the step that the arm tells.
+use mathlib.Core.Path.{_≡_}
+use Prim.Native.Nat.{_-_, _≤_}
+use native.Mathlib.Omega.{arith}
+use borrow.Author.Needs.{needs}
+use Rattle.passes.specs.declared.butterfly.Step.the-variants.{Plain, Forward, Inverse}
+use Rattle.passes.specs.WordLaws.{bound-multiple, plain-law, forward-law, inverse-fits, inverse-law}
+use Rattle.passes.proofs.butterfly.butterfly.Statement.{statement}
+use Rattle.passes.proofs.butterfly.butterfly.Tie as tie
+
+enum-told : tie.Need-enum-told
+enum-told c = search needs
+
+add-t9 : tie.Need-add-t9
+add-t9 c = search needs
+
+add-t10 : tie.Need-add-t10
+add-t10 c = search needs
+
+sub-t11 : tie.Need-sub-t11
+sub-t11 c = search needs
+
+enum-told-2 : tie.Need-enum-told-2
+enum-told-2 c = search needs
+
+add-t12 : tie.Need-add-t12
+add-t12 c = search needs
+
+add-turned : tie.Need-add-turned
+add-turned c = search needs
+
+sub-turned : tie.Need-sub-turned
+sub-turned c = search needs
+
+turned-requires : tie.Need-turned-requires
+turned-requires c κs =
+    let s = c .before .before in
+    let is : s .args .step ≡ Forward = c .enum-told2 .given .1 in
+    (bound-multiple (s .pre .0), (rw is at (s .pre .1 .0), omega arith, s .pre .0 .fits))
+
+enum-told-3 : tie.Need-enum-told-3
+enum-told-3 c = search needs
+
+sub-turned-2 : tie.Need-sub-turned-2
+sub-turned-2 c =
+    let s = c .before .before in
+    let is : s .args .step ≡ Inverse = c .enum-told3 .given .1 in
+    let ready = rw is at (s .pre .1 .0) in
+    omega arith
+
+turned-requires-2 : tie.Need-turned-requires-2
+turned-requires-2 c κs =
+    let s = c .before .before in
+    let is : s .args .step ≡ Inverse = c .enum-told3 .given .1 in
+    let ready = rw is at (s .pre .1 .0) in
+    (s .pre .0 .half, (omega arith, omega arith, omega arith))
+
+add-t17 : tie.Need-add-t17
+add-t17 c = search needs
+
+-- the second word, turned, is at most the bound
+small : (c : tie.After-turned2) → c .turned2 .result ≤ c .before .before .before .args .bound
+small c =
+    let s = c .before .before .before in
+    inverse-fits (s .pre .0) (s .args .u) (s .args .v) (s .pre .1 .1) (s .pre .1 .2) (s .args .bits - s .args .t) (c .turned2 .result)
+    (c .turned2 .ensures)
+
+sub-t18 : tie.Need-sub-t18
+sub-t18 c = omega (arith, small c)
+
+add-t19 : tie.Need-add-t19
+add-t19 c = omega (arith, small c)
+
+returns : tie.Need-returns
+returns c =
+    let s = c .before .before in
+    let is : s .args .step ≡ Plain = c .enum-told .given .1 in
+    rw is (plain-law (s .pre .0) (s .args .u) (s .args .v) (s .pre .1 .1) (s .pre .1 .2))
+
+returns-2 : tie.Need-returns-2
+returns-2 c =
+    let s = c .before .before .before in
+    let is : s .args .step ≡ Forward = c .before .enum-told2 .given .1 in
+    rw is
+    (forward-law (s .pre .0) (s .args .u) (s .args .v) (s .pre .1 .1) (s .pre .1 .2) (s .args .t) (c .turned .result) (c .turned .ensures))
+
+returns-3 : tie.Need-returns-3
+returns-3 c =
+    let s = c .before .before .before in
+    let is : s .args .step ≡ Inverse = c .before .enum-told3 .given .1 in
+    rw is
+    (inverse-law (s .pre .0) (s .args .u) (s .args .v) (s .pre .1 .1) (s .pre .1 .2) (s .args .bits - s .args .t) (c .turned2 .result)
+    (c .turned2 .ensures))
+
+pub butterfly-spec : {M : Type 1} → statement M
+butterfly-spec =
+    tie.close
+    (tie.spec
+    enum-told
+    add-t9
+    add-t10
+    sub-t11
+    enum-told-2
+    add-t12
+    add-turned
+    sub-turned
+    turned-requires
+    enum-told-3
+    sub-turned-2
+    turned-requires-2
+    add-t17
+    sub-t18
+    add-t19
+    returns
+    returns-2
+    returns-3)

@@ -1,0 +1,7 @@
+mod Tiles
+mod Widening
+mod Corners
+mod Products
+mod Finish
+mod Recovery
+mod Sizes

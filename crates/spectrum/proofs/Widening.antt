@@ -1,0 +1,68 @@
+-- How `widen` moves words: one more word of a row, one more row, and all of them with 0 after them. It rests on the laws of `Written`.
+use mathlib.Core.Path.{_≡_, sym, ap, _∙_}
+use mathlib.Core.Logic.{_⊎_, inl, inr}
+use mathlib.Core.List.{List}
+use Prim.Native.Nat.{ℕ, suc, _+_, _-_, _*_, _/_, _%_, _<_, _≤_}
+use native.Mathlib.Nat.{mul-le-mul-left, mul-le-mul-right}
+use native.Mathlib.Decide.{decLt}
+use native.Mathlib.Omega.{arith}
+use lib.Arith.{digits-lt}
+use lib.ListN.{length, getD, set}
+use Rattle.algebra.specs.Places.{Written, Run}
+use Rattle.algebra.specs.PlacesLaws.{written-as, written-again, written-longer}
+use Rattle.passes.specs.OrderLaws.{place-lt, place-row, place-column}
+use Rattle.spectrum.specs.Corner.{turnedWord, Widened}
+
+-- n rows of k words are no more than a tile: row c ends inside it
+pub narrow-le : {n k : ℕ} (c : ℕ) → k ≤ n → c < n → c * k + k ≤ n * n
+narrow-le {n} {k} c le lc =
+    let rows : suc c * k ≤ n * k = mul-le-mul-right k lc in
+    let columns : n * k ≤ n * n = mul-le-mul-left n le in
+    omega arith
+
+-- row r, column c of the first half takes row c, column r of the narrow rows
+turned-word : {n : ℕ} (k : ℕ) (xs : List ℕ) (r c : ℕ) → c < n → turnedWord n k xs (r * n + c) ≡ getD xs (n * n + (c * k + r)) 0
+turned-word k xs r c l = rw (place-row r c l, place-column r c l)
+
+-- one more word of a row
+pub widen-step : (n k r c : ℕ) {from : ℕ} {xs ys : List ℕ} → length xs ≡ 2 * (n * n) → r < n → c < n → from ≡ n * n + (c * k + r)
+    → Written 0 (Run (r * n) c) (turnedWord n k xs) xs ys
+    → Written 0 (Run (r * n) (c + 1)) (turnedWord n k xs) xs (set ys (r * n + c) (getD ys from 0))
+widen-step n k r c {from} {xs} {ys} size lr lc is w =
+    let here = place-lt r c lr lc in
+    written-longer (r * n) c (getD ys from 0) (omega (arith, here)) w
+    (w .kept from (λ h. omega (arith, here)) ∙ ap (λ (p : ℕ). getD xs p 0) is ∙ sym (turned-word k xs r c lc))
+
+-- one more row
+pub widen-next : (n k r : ℕ) {xs ys zs : List ℕ} → r ≤ n → Written 0 (Run 0 (r * n)) (turnedWord n k xs) xs ys
+    → Written 0 (Run (r * n) n) (turnedWord n k ys) ys zs → Written 0 (Run 0 ((r + 1) * n)) (turnedWord n k xs) xs zs
+widen-next n k r {xs} {ys} {zs} le rows row =
+    written-again rows (written-as row (λ p l h. h) (λ p h. h) (λ p l h. rows .kept (place p) (λ q. apart (p % n * k + p / n) (q .1))))
+    (λ p l h. go p h (decLt p (r * n))) (λ p h. (h .0, omega (arith, next))) (λ p h. (omega arith, omega (arith, next)))
+  where
+    place : ℕ → ℕ
+    place p = n * n + (p % n * k + p / n)
+
+    next : (r + 1) * n ≡ r * n + n
+    next = omega arith
+
+    apart : (x : ℕ) → n * n + x < 0 + r * n → ⊥
+    apart x l = let inside : r * n ≤ n * n = mul-le-mul-right n le in omega arith
+
+    go : (p : ℕ) → Run 0 ((r + 1) * n) p → Dec (p < r * n) → (Run 0 (r * n) p × (Run (r * n) n p → ⊥)) ⊎ Run (r * n) n p
+    go p h (yes l) = inl ((h .0, omega arith), λ q. omega arith)
+    go p h (no l) = inr (omega arith, omega (arith, next))
+
+-- all rows, and 0 after them
+pub widened : (n k : ℕ) {xs ys zs : List ℕ} → k ≤ n → length xs ≡ 2 * (n * n) → Written 0 (Run 0 (k * n)) (turnedWord n k xs) xs ys
+    → Written 0 (Run (k * n) (n * n - k * n)) (λ _. 0) ys zs → Widened n k xs zs
+widened n k {xs} {ys} {zs} le size rows cleared = record {
+  turned = λ r c lr lc.
+      let here : r * n + c < k * n = digits-lt lr lc in
+      cleared .kept (r * n + c) (λ h. omega arith) ∙ rows .here (r * n + c) (omega (arith, inside)) (omega arith, omega arith)
+      ∙ turned-word k xs r c lc;
+  empty = λ i lo hi. cleared .here i (omega (arith, rows .size)) (lo, omega (arith, inside));
+}
+  where
+    inside : k * n ≤ n * n
+    inside = mul-le-mul-right n le

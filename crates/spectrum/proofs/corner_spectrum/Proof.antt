@@ -1,0 +1,58 @@
+-- `corner_spectrum` meets what `forward_corner` asks with the numbers of its field.
+use mathlib.Core.Path.{refl}
+use native.Mathlib.Omega.{arith}
+use Rattle.fermat.specs.FieldSizeLaws.{power-high}
+use Rattle.passes.specs.GridLaws.{row-bound}
+use Rattle.spectrum.proofs.Sizes.{tile-square}
+use borrow.Author.Needs.{needs}
+use Rattle.spectrum.proofs.corner_spectrum.Statement.{statement}
+use Rattle.spectrum.proofs.corner_spectrum.Tie as tie
+
+points-of-requires : tie.Need-points-of-requires
+points-of-requires c κs = search needs
+
+levels-of-requires : tie.Need-levels-of-requires
+levels-of-requires c κs = search needs
+
+bits-of-requires : tie.Need-bits-of-requires
+bits-of-requires c κs = search needs
+
+modulus-of-requires : tie.Need-modulus-of-requires
+modulus-of-requires c κs = search needs
+
+mul-forward-corner : tie.Need-mul-forward-corner
+mul-forward-corner c =
+    let s = c .before .before .before .before .before .before in
+    omega (arith, c .modulus-of .ensures, power-high (s .args .field) (s .pre .0))
+
+forward-corner-requires : tie.Need-forward-corner-requires
+forward-corner-requires c κs =
+    let bits = c .before .before in
+    let s = bits .before .before .before .before in
+    let t = s .args .field in
+    let high = s .pre .0 in
+    rw (c .modulus-of .ensures, bits .bits-of .ensures, bits .before .levels-of .ensures, bits .before .before .points-of .ensures)
+    (row-bound t high, (tile-square t high refl (omega arith), s .pre .1))
+
+same-length : tie.Need-same-length
+same-length c = search needs
+
+returns : tie.Need-returns
+returns c =
+    let f = c .before .before in
+    let bits = f .before .before .before in
+    rw (f .before .modulus-of .ensures, bits .bits-of .ensures, bits .before .levels-of .ensures, bits .before .before .points-of .ensures)
+    at (f .forward-corner .ensures)
+
+pub corner-spectrum-spec : {M : Type 1} → statement M
+corner-spectrum-spec =
+    tie.close
+    (tie.spec
+    points-of-requires
+    levels-of-requires
+    bits-of-requires
+    modulus-of-requires
+    mul-forward-corner
+    forward-corner-requires
+    same-length
+    returns)

@@ -1,0 +1,8 @@
+-- definitions
+pub mod Value
+pub mod Tile
+pub mod Corner
+pub mod Product
+-- laws
+pub mod ValueLaws
+pub mod SpectrumLaws

@@ -1,0 +1,3 @@
+mod StoredRows
+mod HeldLines
+mod HeldPlaces

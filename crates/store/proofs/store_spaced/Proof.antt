@@ -1,0 +1,101 @@
+-- `store_spaced` goes on place by place; a word is there for each.
+use mathlib.Core.Path.{_≡_, _∙_}
+use Prim.Native.Nat.{_+_, _*_, _-_, _<_, _≤_}
+use lib.ListN.{length, getD}
+use mir.Syntax.{w32}
+use mir.Facts.{toZ-ofZ}
+use denote.Ref.{now}
+use Rattle.spectrum.specs.Value.{Storable}
+use Rattle.store.specs.Held.{RowStored}
+use Rattle.store.proofs.StoredRows.{row-none, row-next}
+use native.Mathlib.Omega.{arith}
+use borrow.Author.Needs.{needs}
+use Rattle.store.proofs.store_spaced.Statement.{statement}
+use Rattle.store.proofs.store_spaced.Tie as tie
+
+abbrev Inv-loop : tie.InvT-loop
+Inv-loop output₀ at words from step count offset i₀ output i = (i ≤ count) × RowStored offset at from step i words output₀ output
+
+abbrev μ-loop : tie.MeasureT-loop
+μ-loop output₀ at words from step count offset i₀ output i = count - i
+
+-- in a turn, the word is there and its value fits
+here : (c : tie.In-loop Inv-loop μ-loop) →
+    let a = c .before .before .before .args in
+    let i = c .before .loop .i in
+    (a .from + i * a .step < length (now (a .words))) × Storable (a .offset) (getD (now (a .words)) (a .from + i * a .step) 0)
+here c = c .before .before .before .pre .2 (c .before .loop .i) (c .loop-test .taken)
+
+loop-holds : tie.Need-loop-holds Inv-loop μ-loop
+loop-holds c =
+    let a = c .before .args in
+    (omega arith, row-none (a .offset) (a .at) (a .from) (a .step) (now (a .words)))
+
+mul-value-of : tie.Need-mul-value-of Inv-loop μ-loop
+mul-value-of c = omega (arith, here c)
+
+add-value-of : tie.Need-add-value-of Inv-loop μ-loop
+add-value-of c = omega (arith, here c)
+
+mul-value-of-2 : tie.Need-mul-value-of-2 Inv-loop μ-loop
+mul-value-of-2 c = omega (arith, here c)
+
+shared-slice-read-value-of : tie.Need-shared-slice-read-value-of Inv-loop μ-loop
+shared-slice-read-value-of c = omega (arith, here (c .before))
+
+value-of-requires : tie.Need-value-of-requires Inv-loop μ-loop
+value-of-requires c κs = (c .before .before .before .before .pre .0, here (c .before) .1)
+
+add-place : tie.Need-add-place Inv-loop μ-loop
+add-place c = search needs
+
+mul-value : tie.Need-mul-value Inv-loop μ-loop
+mul-value c = search needs
+
+slice-set-from-value : tie.Need-slice-set-from-value Inv-loop μ-loop
+slice-set-from-value c = search needs
+
+add-i : tie.Need-add-i Inv-loop μ-loop
+add-i c = search needs
+
+loop-less : tie.Need-loop-less Inv-loop μ-loop
+loop-less c = search needs
+
+loop-again : tie.Need-loop-again Inv-loop μ-loop
+loop-again c =
+    let turn = c .before .before in
+    let a = turn .before .before .before .args in
+    let loop = turn .before .loop in (
+      omega arith,
+      row-next (a .offset) (a .at) (a .from) (a .step) (now (a .words)) (loop .i) _ (omega arith) (loop .inv .1)
+          (toZ-ofZ {w = w32} (record { sfits = c .value-of .ok }) ∙ c .value-of .ensures),
+    )
+
+same-length : tie.Need-same-length Inv-loop μ-loop
+same-length c = search needs
+
+returns : tie.Need-returns Inv-loop μ-loop
+returns c =
+    let done : c .before .loop .i ≡ c .before .before .before .args .count = omega arith in
+    rw done at (c .before .loop .inv .1)
+
+pub store-spaced-spec : {M : Type 1} → statement M
+store-spaced-spec =
+    tie.close
+    (tie.spec
+    Inv-loop
+    μ-loop
+    loop-holds
+    mul-value-of
+    add-value-of
+    mul-value-of-2
+    shared-slice-read-value-of
+    value-of-requires
+    add-place
+    mul-value
+    slice-set-from-value
+    add-i
+    loop-less
+    loop-again
+    same-length
+    returns)

@@ -1,0 +1,127 @@
+-- `store_tile` finds what the tile holds and lends its channel. That the rows stored are the tile stored is shown in HeldPlaces.
+use mathlib.Core.Path.{_≡_, ap}
+use Prim.Native.Nat.{ℕ, _+_, _-_, _*_, _≤_}
+use native.Mathlib.Nat.{mul-le-mul-right}
+use native.Mathlib.Omega.{arith}
+use borrow.Author.Needs.{needs}
+use lib.ListN.{length, drop, length-drop}
+use lib.Seq.{length-take-le}
+use denote.Ref.{now}
+use Rattle.layer.specs.Shape.{tileChannel, tileRow, tileColumn}
+use Rattle.layer.specs.TileSizeLaws.{rows-wanted, columns-wanted}
+use Rattle.layer.specs.TileLaws.{planned-tiled, tile-channel-lt}
+use Rattle.layer.specs.PlaceLaws.{tile-row-lt, tile-column-lt}
+use Rattle.store.specs.Held.{HeldBy}
+use Rattle.store.proofs.HeldPlaces.{with-words, channel-end, rows-fit, tile-stored}
+use Rattle.store.proofs.store_tile.Statement.{statement}
+use Rattle.store.proofs.store_tile.Tie as tie
+
+-- the rows and the columns held, by the definitions
+rows-held : (c : tie.After-held-in) →
+    let a = c .before .before .before .args in
+    HeldBy (a .layer) (tileRow (a .layer) (a .tile)) (a .layer .rows) (c .held-in .result)
+rows-held c = rw (c .before .place-of .ensures .1) at (c .held-in .ensures)
+
+columns-held : (c : tie.After-held-in2) →
+    let a = c .before .before .before .before .args in
+    HeldBy (a .layer) (tileColumn (a .layer) (a .tile)) (a .layer .columns) (c .held-in2 .result)
+columns-held c = rw (c .before .before .place-of .ensures .2) at (c .held-in2 .ensures)
+
+-- the first place of the part that is lent
+abbrev from : tie.After-held-in2 → ℕ
+from c = let l = c .before .before .before .before .args .layer in c .before .before .place-of .result .channel * (l .rows * l .columns)
+
+from-is : (c : tie.After-held-in2) →
+    let a = c .before .before .before .before .args in
+    from c ≡ tileChannel (a .layer) (a .tile) * (a .layer .rows * a .layer .columns)
+from-is c =
+    let l = c .before .before .before .before .args .layer in
+    ap (λ (k : ℕ). k * (l .rows * l .columns)) (c .before .before .place-of .ensures .0)
+
+-- the channel is within the output
+part : (c : tie.After-held-in2) →
+    let a = c .before .before .before .before .args in
+    from c + a .layer .rows * a .layer .columns ≤ length (now (a .output))
+part c =
+    let s = c .before .before .before .before in
+    let l = s .args .layer in
+    let t = s .args .tile in
+    omega (arith, from-is c, channel-end l t (tile-channel-lt l (planned-tiled l (s .pre .0 .0)) t (s .pre .0 .2)), s .pre .0 .1)
+
+place-of-requires : tie.Need-place-of-requires
+place-of-requires c κs = search needs
+
+held-in-requires : tie.Need-held-in-requires
+held-in-requires c κs =
+    let s = c .before .before in
+    let p = s .pre .0 .0 in
+    (p, rows-wanted _ p, omega (arith, c .place-of .ensures .1, tile-row-lt _ p (s .args .tile)))
+
+held-in-requires-2 : tie.Need-held-in-requires-2
+held-in-requires-2 c κs =
+    let s = c .before .before .before in
+    let p = s .pre .0 .0 in
+    (p, columns-wanted _ p, omega (arith, c .before .place-of .ensures .2, tile-column-lt _ p (s .args .tile)))
+
+mul-from : tie.Need-mul-from
+mul-from c = omega (arith, part (c .before))
+
+mul-from-2 : tie.Need-mul-from-2
+mul-from-2 c = omega (arith, part (c .before .before))
+
+mul-store-rows : tie.Need-mul-store-rows
+mul-store-rows c = omega (arith, part (c .before .before))
+
+sub-store-rows : tie.Need-sub-store-rows
+sub-store-rows c = omega (arith, part (c .before .before))
+
+part-store-rows-start : tie.Need-part-store-rows-start
+part-store-rows-start c = omega (arith, part (c .before .before))
+
+part-store-rows-end : tie.Need-part-store-rows-end
+part-store-rows-end c = search needs
+
+store-rows-requires : tie.Need-store-rows-requires
+store-rows-requires c κs =
+    let h = c .before .before .before in
+    let s = h .before .before .before .before in
+    let l = s .args .layer in
+    let p = s .pre .0 .0 in
+    let t = s .args .tile in
+    let held = rows-held (h .before) in
+    let across = columns-held h in
+    let out = now (s .args .output) in
+    let size = length-take-le (length out - from h) (drop (from h) out) (omega (arith, length-drop (from h) out)) in (
+      (p, with-words l (tileRow l t) (l .rows) _ held p, with-words l (tileColumn l t) (l .columns) _ across p),
+      (
+        (omega (arith, size, part h, mul-le-mul-right (l .columns) (held .short)), across .short),
+        (s .pre .1 .0, rows-fit l p t _ _ held across (from h) (from-is h) (now (s .args .words)) (part h) (s .pre .1 .1)),
+      ),
+    )
+
+same-length : tie.Need-same-length
+same-length c = search needs
+
+returns : tie.Need-returns
+returns c =
+    let h = c .before .before .before .before .before in
+    let s = h .before .before .before .before in
+    tile-stored (s .args .layer) (s .pre .0 .0) (s .args .tile) _ _ (rows-held (h .before)) (columns-held h) (from h) (from-is h)
+    (now (s .args .words)) (omega (arith, part h)) (c .before .store-rows .ensures)
+
+pub store-tile-spec : {M : Type 1} → statement M
+store-tile-spec =
+    tie.close
+    (tie.spec
+    place-of-requires
+    held-in-requires
+    held-in-requires-2
+    mul-from
+    mul-from-2
+    mul-store-rows
+    sub-store-rows
+    part-store-rows-start
+    part-store-rows-end
+    store-rows-requires
+    same-length
+    returns)

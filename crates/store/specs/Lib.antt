@@ -1,0 +1,3 @@
+-- definitions
+pub mod Stored
+pub mod Held

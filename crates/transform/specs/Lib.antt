@@ -1,0 +1,6 @@
+-- definitions
+pub mod Answer
+-- laws
+pub mod AnswerLaws
+pub mod PairLaws
+pub mod Vectors

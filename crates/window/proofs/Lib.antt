@@ -1,0 +1,5 @@
+mod Loads
+mod Rows
+mod WindowRows
+mod Figures
+mod Corner

@@ -1,0 +1,150 @@
+-- `load_line` loads the map row that the grid row holds, or clears.
+use mathlib.Core.Path.{_≡_, refl, sym, ap, _∙_, subst}
+use Prim.Native.Nat.{ℕ, _+_, _*_, _-_, _/_, _≤_, _<_}
+use native.Mathlib.Omega.{arith}
+use borrow.Author.Needs.{needs}
+use lib.Dec.{T}
+use lib.IntN.{ℤ}
+use Rattle.layer.specs.Windows.{spread}
+use Rattle.layer.specs.WindowLaws.{spread-is, when-yes, when-no}
+use Rattle.layer.specs.CountLaws.{map-rows-high, map-high}
+use Rattle.layer.specs.PlaceLaws.{modulus-low, modulus-high, map-row, map-place}
+use Rattle.window.specs.Shows.{shownAt, lineAt}
+use Rattle.window.specs.Window.{spacing, edge}
+use Rattle.window.proofs.Loads.{loaded-clear, loaded-as}
+use Rattle.window.proofs.load_line.Statement.{statement}
+use Rattle.window.proofs.load_line.Tie as tie
+
+points-of-requires : tie.Need-points-of-requires
+points-of-requires c κs = search needs
+
+has-values-requires : tie.Need-has-values-requires
+has-values-requires c κs = search needs
+
+edge-of-requires : tie.Need-edge-of-requires
+edge-of-requires c κs = search needs
+
+-- the grid row holds a row of the map
+found : (c : tie.After-edge-of) → let a = c .before .before .before .before .before .args in
+    T (spread (spacing (a .layer)) (edge (a .layer)) (a .layer .height) (a .line))
+found c = subst T (sym (sym (c .before .before .has-values .ensures) ∙ c .before .if1 .taken)) tt
+
+-- which row it is
+same-row : (c : tie.After-edge-of) → let a = c .before .before .before .before .before .args in
+    (a .line - c .edge-of .result) / a .shown .spacing ≡ (a .line - edge (a .layer)) / spacing (a .layer)
+same-row c = let s = c .before .before .before .before .before in rw (c .edge-of .ensures, s .pre .0 .1 .spacing-is) refl
+
+row-of : (c : tie.After-edge-of) → let a = c .before .before .before .before .before .args in
+    (c .edge-of .result ≤ a .line) × ((a .line - c .edge-of .result) / a .shown .spacing < a .layer .height)
+row-of c =
+    let (low, whole, high) = spread-is _ _ _ _ (found c) in
+    (omega (arith, c .edge-of .ensures), omega (arith, same-row c))
+
+row-inside : (c : tie.After-edge-of) → let a = c .before .before .before .before .before .args in
+    a .channel * a .layer .height + (a .line - c .edge-of .result) / a .shown .spacing < 32768
+row-inside c =
+    let s = c .before .before .before .before .before in
+    omega (arith, map-row _ (s .pre .0 .0) _ _ (s .pre .1 .1) (row-of c .1), map-rows-high _ (s .pre .0 .0))
+
+place-inside : (c : tie.After-edge-of) → let a = c .before .before .before .before .before .args in
+    (a .channel * a .layer .height + (a .line - c .edge-of .result) / a .shown .spacing) * a .layer .width < 16777216
+place-inside c =
+    let s = c .before .before .before .before .before in
+    let r = s .pre .0 .0 in
+    omega (arith, map-place _ r _ _ 0 (s .pre .1 .1) (row-of c .1) (r .width-low), map-high _ r)
+
+-- what is loaded of it
+abbrev row-value : tie.After-edge-of → ℕ → ℤ
+row-value c p =
+    let a = c .before .before .before .before .before .args in
+    let row = (a .line - c .edge-of .result) / a .shown .spacing in
+    shownAt (a .shown) (a .at) (a .map .now) ((a .channel * a .layer .height + row) * a .layer .width + a .shown .first) p
+
+line-value : (c : tie.After-edge-of) (p : ℕ) → let a = c .before .before .before .before .before .args in
+    row-value c p ≡ lineAt (a .layer) (a .shown) (a .map .now) (a .channel) (a .line) (a .at) p
+line-value c p =
+    let a = c .before .before .before .before .before .args in
+    ap (λ (y : ℕ). shownAt (a .shown) (a .at) (a .map .now) ((a .channel * a .layer .height + y) * a .layer .width + a .shown .first) p) (same-row c)
+    ∙ sym (when-yes (spread _ _ _ _) _ (found c))
+
+sub-map-row : tie.Need-sub-map-row
+sub-map-row c = row-of c .0
+
+div-map-row : tie.Need-div-map-row
+div-map-row c = search needs
+
+mul-from : tie.Need-mul-from
+mul-from c = omega (arith, row-inside (c .before .before))
+
+add-from : tie.Need-add-from
+add-from c = omega (arith, row-inside (c .before .before))
+
+mul-from-2 : tie.Need-mul-from-2
+mul-from-2 c = omega (arith, place-inside (c .before .before .before))
+
+add-from-2 : tie.Need-add-from-2
+add-from-2 c =
+    let s = c .before .before .before .before .before .before .before .before .before in
+    omega (arith, place-inside (c .before .before .before .before), s .pre .0 .1 .small)
+
+modulus-of-requires : tie.Need-modulus-of-requires
+modulus-of-requires c κs = search needs
+
+load-row-requires : tie.Need-load-row-requires
+load-row-requires c κs =
+    let s = c .before .before .before .before .before .before .before .before .before .before .before in
+    let r = s .pre .0 .0 in
+    let n = c .before .before .before .before .before .before .before .before .before .points-of .ensures in
+    let m = c .modulus-of .ensures in
+    let fits = s .pre .0 .1 in
+    let row = row-of (c .before .before .before .before .before .before) in (
+      (omega (arith, n, s .pre .0 .2), omega (arith, m, modulus-low _ r), omega (arith, m, modulus-high _ r)),
+      (rw n (fits .inside), λ i l. omega (arith, map-place _ r _ _ _ (s .pre .1 .1) (row .1) (fits .in-map i l), s .pre .1 .0)),
+    )
+
+add-clear : tie.Need-add-clear
+add-clear c = search needs
+
+clear-requires : tie.Need-clear-requires
+clear-requires c κs = search needs
+
+same-length : tie.Need-same-length
+same-length c = search needs
+
+returns : tie.Need-returns
+returns c =
+    let at = c .before .before .before .before .before .before .before .before .before in
+    let n = at .before .before .before .points-of .ensures in
+    let loaded = rw (n, c .before .before .before .modulus-of .ensures) at (c .before .before .load-row .ensures) in
+    loaded-as {u = row-value at} loaded (λ p l h. (h, line-value at p)) (λ p h. h)
+
+same-length-2 : tie.Need-same-length-2
+same-length-2 c = search needs
+
+returns-2 : tie.Need-returns-2
+returns-2 c =
+    let e = sym (c .before .before .before .before .before .has-values .ensures) ∙ c .before .before .before .before .if1 .left in
+    let cleared = loaded-clear (rw (c .before .before .before .before .before .before .points-of .ensures) at (c .before .before .clear .ensures)) in
+    loaded-as cleared (λ p l h. ((h .0, omega arith), sym (when-no (spread _ _ _ _) _ (λ t. subst T e t)))) (λ p h. (h .0, omega arith))
+
+pub load-line-spec : {M : Type 1} → statement M
+load-line-spec =
+    tie.close
+    (tie.spec
+    points-of-requires
+    has-values-requires
+    edge-of-requires
+    sub-map-row
+    div-map-row
+    mul-from
+    add-from
+    mul-from-2
+    add-from-2
+    modulus-of-requires
+    load-row-requires
+    add-clear
+    clear-requires
+    same-length
+    returns
+    same-length-2
+    returns-2)

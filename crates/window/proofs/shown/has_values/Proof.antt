@@ -1,0 +1,43 @@
+-- `has_values` makes the tests of `spread`.
+use mathlib.Core.Path.{sym}
+use native.Mathlib.Omega.{arith}
+use borrow.Author.Tests.{ne-eqb}
+use borrow.Author.Needs.{needs}
+use Rattle.window.proofs.Figures.{spacing-low, spread-before, spread-between, spread-at}
+use Rattle.window.proofs.shown.has_values.Statement.{statement}
+use Rattle.window.proofs.shown.has_values.Tie as tie
+
+edge-of-requires : tie.Need-edge-of-requires
+edge-of-requires c κs = search needs
+
+returns : tie.Need-returns
+returns c =
+    let e = c .before .edge-of .ensures in
+    sym (spread-before _ _ _ _ (omega (arith, e, c .if1 .taken)))
+
+spacing-of-requires : tie.Need-spacing-of-requires
+spacing-of-requires c κs = search needs
+
+rem-if2 : tie.Need-rem-if2
+rem-if2 c = omega (arith, c .spacing-of .ensures, spacing-low _ (c .before .before .before .pre))
+
+div-result : tie.Need-div-result
+div-result c = omega (arith, c .before .spacing-of .ensures, spacing-low _ (c .before .before .before .before .pre))
+
+returns-2 : tie.Need-returns-2
+returns-2 c =
+    let e = c .before .before .before .before .edge-of .ensures in
+    let f = c .before .before .spacing-of .ensures in
+    rw (e, f) (sym (spread-at _ _ _ _ (rw e at (c .before .before .before .if1 .left)) (rw (e, f) at (c .before .if2 .taken))))
+
+returns-3 : tie.Need-returns-3
+returns-3 c =
+    let e = c .before .before .before .edge-of .ensures in
+    let f = c .before .spacing-of .ensures in
+    let apart = rw (e, f) at (c .if2 .left) in
+    rw (e, f, ne-eqb _ _ apart) (sym (spread-between _ _ _ _ (rw e at (c .before .before .if1 .left)) apart))
+
+pub has-values-spec : {M : Type 1} → statement M
+has-values-spec =
+    tie.close
+    (tie.spec edge-of-requires returns spacing-of-requires rem-if2 div-result returns-2 returns-3)

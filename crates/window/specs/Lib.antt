@@ -1,0 +1,4 @@
+-- definitions
+pub mod Window
+pub mod Loaded
+pub mod Shows
