@@ -81,12 +81,12 @@ module _ {A : Type 0} (d : A) (xs ys : List A) (a k : ℕ) (le : a + k ≤ lengt
 module _ {A : Type 0} {d : A} where
   -- no place is written
   pub written-nothing : {P : ℕ → Type 0} {v : ℕ → A} {xs : List A} → ((p : ℕ) → P p → ⊥) → Written d P v xs xs
-  written-nothing none = record { size = refl; here = λ p l h. absurd (none p h); kept = λ p h. refl }
+  written-nothing none = record { same-length = refl; here = λ p l h. absurd (none p h); kept = λ p h. refl }
 
   -- one store
   pub written-one : {v : ℕ → A} {xs : List A} (i : ℕ) (x : A) → i < length xs → x ≡ v i → Written d (λ p. p ≡ i) v xs (set xs i x)
   written-one {v} {xs} i x l e = record {
-    size = length-set xs i x;
+    same-length = length-set xs i x;
     here = λ p lp h. ap (λ (k : ℕ). getD (set xs i x) k d) h ∙ getD-set-same xs i x d l ∙ e ∙ ap v (sym h);
     kept = λ p out. getD-set-other xs i p x d out;
   }
@@ -95,7 +95,7 @@ module _ {A : Type 0} {d : A} where
   pub written-as : {P Q : ℕ → Type 0} {u v : ℕ → A} {xs ys : List A} → Written d P u xs ys
       → ((p : ℕ) → p < length xs → Q p → P p) → ((p : ℕ) → P p → Q p) → ((p : ℕ) → p < length xs → Q p → u p ≡ v p) → Written d Q v xs ys
   written-as w to back same = record {
-    size = w .size;
+    same-length = w .same-length;
     here = λ p l h. w .here p l (to p l h) ∙ same p l h;
     kept = λ p out. w .kept p (λ h. out (back p h));
   }
@@ -104,8 +104,8 @@ module _ {A : Type 0} {d : A} where
   pub written-again : {P Q R : ℕ → Type 0} {v : ℕ → A} {xs ys zs : List A} → Written d P v xs ys → Written d Q v ys zs
       → ((p : ℕ) → p < length xs → R p → (P p × (Q p → ⊥)) ⊎ Q p) → ((p : ℕ) → P p → R p) → ((p : ℕ) → Q p → R p) → Written d R v xs zs
   written-again a b to left right = record {
-    size = b .size ∙ a .size;
-    here = λ p l h. ⊎-elim (λ w. b .kept p (w .1) ∙ a .here p l (w .0)) (λ w. b .here p (omega (arith, a .size)) w) (to p l h);
+    same-length = b .same-length ∙ a .same-length;
+    here = λ p l h. ⊎-elim (λ w. b .kept p (w .1) ∙ a .here p l (w .0)) (λ w. b .here p (omega (arith, a .same-length)) w) (to p l h);
     kept = λ p out. b .kept p (λ h. out (right p h)) ∙ a .kept p (λ h. out (left p h));
   }
 
@@ -113,7 +113,7 @@ module _ {A : Type 0} {d : A} where
   pub written-longer : {v : ℕ → A} {xs ys : List A} (at i : ℕ) (x : A) → at + i < length xs → Written d (Run at i) v xs ys → x ≡ v (at + i)
       → Written d (Run at (i + 1)) v xs (set ys (at + i) x)
   written-longer at i x l w e =
-      written-again w (written-one (at + i) x (omega (arith, w .size)) e) (λ p l h. to p h) (λ p h. (h .0, omega arith)) (λ p h. (omega arith, omega arith))
+      written-again w (written-one (at + i) x (omega (arith, w .same-length)) e) (λ p l h. to p h) (λ p h. (h .0, omega arith)) (λ p h. (omega arith, omega arith))
     where
       to : (p : ℕ) → Run at (i + 1) p → (Run at i p × (p ≡ at + i → ⊥)) ⊎ (p ≡ at + i)
       to p h = go (ℕ-discrete p (at + i))
@@ -126,7 +126,7 @@ module _ {A : Type 0} {d : A} where
   pub written-part : {P : ℕ → Type 0} {v : ℕ → A} {xs ys : List A} (a k : ℕ) → a + k ≤ length xs → Written d P v (midOf a k xs) ys
       → Written d (λ p. (Run a k p) × P (p - a)) (λ p. v (p - a)) xs (putMid a k xs ys)
   written-part {P} {v} {xs} {ys} a k le w = record {
-    size = same-len-mid a k xs ys (w .size);
+    same-length = same-len-mid a k xs ys (w .same-length);
     here = λ p l h. inner p (h .0) ∙ w .here (p - a) (omega (arith, part)) (h .1);
     kept = λ p out. go p out (decLt p a) (decLt p (a + k));
   }
@@ -135,7 +135,7 @@ module _ {A : Type 0} {d : A} where
       part = length-take-le k (drop a xs) (omega (arith, length-drop a xs))
 
       len : length ys ≡ k
-      len = w .size ∙ part
+      len = w .same-length ∙ part
 
       inner : (p : ℕ) → Run a k p → getD (putMid a k xs ys) p d ≡ getD ys (p - a) d
       inner p h =
@@ -154,25 +154,25 @@ module _ {A : Type 0} {d : A} where
 
 module _ {A : Type 0} {d : A} where
   pub changed-nothing : {from to : ℕ} {xs : List A} → Changed d from to xs xs
-  changed-nothing = record { size = refl; before = λ p l. refl; after = λ p l. refl }
+  changed-nothing = record { same-length = refl; before = λ p l. refl; after = λ p l. refl }
 
   -- a part that was lent and came back
   pub changed-part : (xs ys : List A) (a k : ℕ) → a + k ≤ length xs → length ys ≡ k → Changed d a (a + k) xs (putMid a k xs ys)
   changed-part xs ys a k le len = record {
-    size = same-len-mid a k xs ys (len ∙ sym (length-take-le k (drop a xs) (omega (arith, length-drop a xs))));
+    same-length = same-len-mid a k xs ys (len ∙ sym (length-take-le k (drop a xs) (omega (arith, length-drop a xs))));
     before = getD-put-mid-before d xs ys a k le len;
     after = getD-put-mid-after d xs ys a k le len;
   }
 
   -- a write
   pub changed-written : {v : ℕ → A} {xs ys : List A} (at count : ℕ) → Written d (Run at count) v xs ys → Changed d at (at + count) xs ys
-  changed-written at count w = record { size = w .size; before = λ p l. w .kept p (λ h. omega arith); after = λ p l. w .kept p (λ h. omega arith) }
+  changed-written at count w = record { same-length = w .same-length; before = λ p l. w .kept p (λ h. omega arith); after = λ p l. w .kept p (λ h. omega arith) }
 
   -- two changes in a row
   pub changed-again : {xs ys zs : List A} {a b c e : ℕ} (from to : ℕ) → from ≤ a → from ≤ c → b ≤ to → e ≤ to
       → Changed d a b xs ys → Changed d c e ys zs → Changed d from to xs zs
   changed-again from to la lc lb le one two = record {
-    size = two .size ∙ one .size;
+    same-length = two .same-length ∙ one .same-length;
     before = λ p l. two .before p (omega arith) ∙ one .before p (omega arith);
     after = λ p l. two .after p (omega arith) ∙ one .after p (omega arith);
   }

@@ -30,8 +30,8 @@ module _ (z : ℤ) (below : ltZ z (pos 0) ≡ true) where
       go (pos n) e = let l : n < 0 = ltb-true n 0 e in absurd (omega arith)
       go (negsuc n) e = next n
 
-  pub turned-back : pos 0 -ℤ negℤ (pos (mag z)) ≡ pos (mag z)
-  turned-back = rw (zero-minus (negℤ (pos (mag z)))) (negℤ-negℤ (pos (mag z)))
+  pub opposite-back : pos 0 -ℤ negℤ (pos (mag z)) ≡ pos (mag z)
+  opposite-back = rw (zero-minus (negℤ (pos (mag z)))) (negℤ-negℤ (pos (mag z)))
 
   pub size-below : mag z + 1 ≡ natAbs z
   size-below = go z below

@@ -23,8 +23,8 @@ pub fn size(value: i32) -> u32
     ensures { λ r. ⌜ r ≡ natAbs value ⌝ }
 {
     if value < 0 {
-        let turned = 0 - (value + 1);
-        turned as u32 + 1
+        let opposite = 0 - (value + 1);
+        opposite as u32 + 1
     } else {
         value as u32
     }

@@ -55,8 +55,8 @@ planned {engine} lawful l e =
     let r = in-range (engine .last-field) (lawful .known) l shape in
     record {
       shape = r;
-      height-output = record { extent = height-extent l r; some = height };
-      width-output = record { extent = width-extent l r; some = width };
+      height-output = record { in-range = height-extent l r; some = height };
+      width-output = record { in-range = width-extent l r; some = width };
       rows-low = crop-low (l .top) (l .rows) (fullHeight l) rows;
       rows-end = crop-end (l .top) (l .rows) (fullHeight l) rows;
       columns-low = crop-low (l .left) (l .columns) (fullWidth l) columns;

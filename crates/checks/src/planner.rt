@@ -5,7 +5,7 @@ use layer::shape::Plan;
 use layer::sizes;
 ghost use mathlib.Core.Path.{_≡_};
 ghost use Rattle.base.specs.Rules.{firstBroken};
-ghost use Rattle.layer.specs.Planned.{hasOutput, cropFits, InRange, Extent};
+ghost use Rattle.layer.specs.Planned.{hasOutput, cropFits, InRange, ExtentInRange};
 ghost use Rattle.checks.specs.Engine.{tileEngine};
 ghost use Rattle.checks.specs.Checks.{mapRules, kernelRules, outputRules, planCode, planOf};
 
@@ -31,14 +31,14 @@ fn kernel_code(layer: Layer) -> usize
 }
 
 // Whether rule 8 holds of the map's height or width.
-fn has_output(layer: Layer, size: usize) -> bool
-    requires { ⌜ Extent layer size ⌝ }
-    ensures { λ r. ⌜ r ≡ hasOutput layer size ⌝ }
+fn has_output(layer: Layer, extent: usize) -> bool
+    requires { ⌜ ExtentInRange layer extent ⌝ }
+    ensures { λ r. ⌜ r ≡ hasOutput layer extent ⌝ }
 {
     if layer.kind == 0 {
-        return layer.side <= size + 2 * layer.padding;
+        return layer.side <= extent + 2 * layer.padding;
     }
-    2 * layer.padding < (size - 1) * layer.stride + layer.side
+    2 * layer.padding < (extent - 1) * layer.stride + layer.side
 }
 
 // Whether rule 9 holds of the rows or columns. The sum may not fit a word, so it is not taken.

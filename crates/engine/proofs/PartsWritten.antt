@@ -45,7 +45,7 @@ module _ (engine : Engine) (l : Layer) (map kernel : List ℤ) (from : ℕ) wher
   unfolding finished
   written-finished {xs} {ys} to w =
       table-of (pos 0) (length xs)
-      (λ p. cond (leb from (engine .partOf l p) && ltb (engine .partOf l p) to) (directAt l map kernel p) (getD xs p (pos 0))) ys (w .size)
+      (λ p. cond (leb from (engine .partOf l p) && ltb (engine .partOf l p) to) (directAt l map kernel p) (getD xs p (pos 0))) ys (w .same-length)
       (λ p below. by-tests p below (leb from (engine .partOf l p)) (ltb (engine .partOf l p) to) refl refl)
     where
       by-tests : (p : ℕ) → p < length xs → (a b : Bool) → leb from (engine .partOf l p) ≡ a → ltb (engine .partOf l p) to ≡ b

@@ -15,10 +15,10 @@ pub changed-cleared : {xs ys zs : List ℕ} (count : ℕ) → count ≤ length x
     → Written 0 (Run 0 (count - 0)) (λ _. 0) ys zs → zs ≡ cleared count xs
 unfolding cleared
 changed-cleared {xs} {ys} {zs} count room used none =
-    table-of 0 (length xs) (λ i. cond (ltb i count) 0 (getD xs i 0)) zs (none .size ∙ used .size) (λ i below. by-test i (ltb i count) refl)
+    table-of 0 (length xs) (λ i. cond (ltb i count) 0 (getD xs i 0)) zs (none .same-length ∙ used .same-length) (λ i below. by-test i (ltb i count) refl)
   where
     by-test : (i : ℕ) (t : Bool) → ltb i count ≡ t → getD zs i 0 ≡ cond t 0 (getD xs i 0)
     by-test i true e =
-        let low : i < count = ltb-true _ _ e in none .here i (omega (arith, used .size)) (omega arith, omega arith)
+        let low : i < count = ltb-true _ _ e in none .here i (omega (arith, used .same-length)) (omega arith, omega arith)
     by-test i false e =
         let high : count ≤ i = ltb-false _ _ e in none .kept i (λ h. omega arith) ∙ used .after i high

@@ -85,7 +85,7 @@ module _ {m w v s t : ℕ} (r : Root m w v s t) where
       n = 2 ^ suc t
 
       product : (k : ℕ) → Cong m ((powerSum n w x k % m * (powerSum n w y k % m)) % m) (powerSum n w (circular n x y) k)
-      product k = c-mod ⨟ c-mul c-mod c-mod ⨟ c-sym (circular-power-sum n w (root-period t w (r .half)) x y k)
+      product k = c-mod ⨟ c-mul c-mod c-mod ⨟ c-sym (circular-power-sum n w (root-period t w (r .half-period)) x y k)
 
   -- ---- over a tile
 
@@ -126,4 +126,4 @@ module _ {m w v s t : ℕ} (r : Root m w v s t) where
       n = 2 ^ suc t
 
       product : (k l : ℕ) → Cong m ((powerSum2 n w x k l % m * (powerSum2 n w y k l % m)) % m) (powerSum2 n w (circular2 n x y) k l)
-      product k l = c-mod ⨟ c-mul c-mod c-mod ⨟ c-sym (circular2-power-sum n w (root-period t w (r .half)) x y k l)
+      product k l = c-mod ⨟ c-mul c-mod c-mod ⨟ c-sym (circular2-power-sum n w (root-period t w (r .half-period)) x y k l)

@@ -7,12 +7,12 @@ abbrev pub modulus : ℕ → ℕ
 modulus t = 2 ^ (2 ^ t) + 1
 
 -- N, the length of a transform: 32 in F_4, 64 in F_5
-abbrev pub points : ℕ → ℕ
-points t = 2 ^ (t + 1)
+abbrev pub transformLength : ℕ → ℕ
+transformLength t = 2 ^ (t + 1)
 
 -- the inverse of 2: 32,769 in F_4, 2,147,483,649 in F_5
-abbrev pub half : ℕ → ℕ
-half t = 2 ^ (2 ^ t - 1) + 1
+abbrev pub inverseOfTwo : ℕ → ℕ
+inverseOfTwo t = 2 ^ (2 ^ t - 1) + 1
 
 -- 1/N: 63,489 in F_4, 4,227,858,433 in F_5
 abbrev pub scale : ℕ → ℕ

@@ -5,7 +5,7 @@ use native.Mathlib.Nat.{mod-self, zero-mod, two-pow-succ, pow-succ'}
 use native.Mathlib.Omega.{arith}
 use lib.Pow.{pow-add, pow-pos, pow-mono}
 use Rattle.algebra.specs.CongruenceLaws.{c-via, c-multiple}
-use Rattle.fermat.specs.Field.{modulus, points, half, scale}
+use Rattle.fermat.specs.Field.{modulus, transformLength, inverseOfTwo, scale}
 use Rattle.fermat.specs.RootLaws.{Root}
 
 pub exponent-lt : (t : ℕ) → suc t ≤ 2 ^ t
@@ -19,7 +19,7 @@ less-law p q k m d a b c =
     let f : p * m ≡ k * m + m = ap (λ (x : ℕ). x * m) a ∙ omega arith in
     omega arith
 
-pub field-root : (t : ℕ) → Root (modulus t) 2 (half t) (scale t) t
+pub field-root : (t : ℕ) → Root (modulus t) 2 (inverseOfTwo t) (scale t) t
 field-root t =
     let q : ℕ = 2 ^ (2 ^ t - (t + 1)) in
     let long : suc t ≤ 2 ^ t = exponent-lt t in
@@ -27,7 +27,7 @@ field-root t =
     let parts : 2 ^ (2 ^ t) ≡ 2 ^ suc t * q = ap (λ (x : ℕ). 2 ^ x) (split t (2 ^ t) long) ∙ pow-add 2 (suc t) (2 ^ t - (t + 1)) in
     let small : q ≤ 2 ^ (2 ^ t) = pow-mono (less (2 ^ t) (t + 1)) in
     record {
-      half = record { same = mod-self (modulus t) ∙ sym (zero-mod (modulus t)) };
+      half-period = record { same = mod-self (modulus t) ∙ sym (zero-mod (modulus t)) };
       inverse = c-via (twice (2 ^ (2 ^ t)) (2 ^ (2 ^ t - 1)) two) (c-multiple 1 1) refl;
       length = c-via (less-law (2 ^ suc t) q (2 ^ suc t - 1) (modulus t) (scale t) (up (2 ^ suc t) (pow-pos (suc t))) (ap (λ (x : ℕ). x + 1) parts) (omega arith))
           (c-multiple 1 (2 ^ suc t - 1)) refl;
@@ -47,8 +47,8 @@ field-root t =
 
 -- ---- 01: the figures of the two fields come out by computation
 
-figures-4 : (modulus 4 ≡ 65537) × (points 4 ≡ 32) × (half 4 ≡ 32769) × (scale 4 ≡ 63489)
+figures-4 : (modulus 4 ≡ 65537) × (transformLength 4 ≡ 32) × (inverseOfTwo 4 ≡ 32769) × (scale 4 ≡ 63489)
 figures-4 = (refl, refl, refl, refl)
 
-figures-5 : (modulus 5 ≡ 4294967297) × (points 5 ≡ 64) × (half 5 ≡ 2147483649) × (scale 5 ≡ 4227858433)
+figures-5 : (modulus 5 ≡ 4294967297) × (transformLength 5 ≡ 64) × (inverseOfTwo 5 ≡ 2147483649) × (scale 5 ≡ 4227858433)
 figures-5 = (refl, refl, refl, refl)

@@ -17,8 +17,8 @@ shifted {s} {e} same small = one-shl s (omega arith) ∙ ap (λ (i : ℕ). 2 ^ i
 
 module _ (t : ℕ) where
   -- the levels are at most as many as the bits
-  pub levels-le : t + 1 ≤ 2 ^ t
-  levels-le = omega (arith, exponent-lt t)
+  pub halvings-le : t + 1 ≤ 2 ^ t
+  halvings-le = omega (arith, exponent-lt t)
 
   pub rest-le : 2 ^ (2 ^ t - (t + 1)) ≤ 2 ^ (2 ^ t)
   rest-le = pow-mono (less (2 ^ t) (t + 1))

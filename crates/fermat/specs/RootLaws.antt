@@ -15,7 +15,7 @@ use Rattle.algebra.specs.CongruenceLaws.{c-refl, c-sym, _⨟_, c-via, c-add, c-
 
 -- w is a root of length 2 ^ suc t, v its inverse and s the inverse of the length
 pub record Root (m w v s t : ℕ) : Type 0 where
-  pub half : Cong m (w ^ (2 ^ t) + 1) 0
+  pub half-period : Cong m (w ^ (2 ^ t) + 1) 0
   pub inverse : Cong m (w * v) 1
   pub length : Cong m (2 ^ suc t * s) 1
 
@@ -95,13 +95,13 @@ pub root-inverse : {m w v s t : ℕ} → Root m w v s t → Root m v w s t
 root-inverse {m} {w} {v} {s} {t} r =
     let h : ℕ = 2 ^ t in
     let a : Cong m (v ^ h + w ^ h * v ^ h) (v ^ h + 1) = c-add c-refl (inverse-pow w v h (r .inverse)) in
-    let b : Cong m (v ^ h * (w ^ h + 1)) (v ^ h * 0) = c-mul c-refl (r .half) in
-    record { half = c-sym a ⨟ c-via (omega arith) b (omega arith); inverse = c-via (mul-comm v w) (r .inverse) refl; length = r .length }
+    let b : Cong m (v ^ h * (w ^ h + 1)) (v ^ h * 0) = c-mul c-refl (r .half-period) in
+    record { half-period = c-sym a ⨟ c-via (omega arith) b (omega arith); inverse = c-via (mul-comm v w) (r .inverse) refl; length = r .length }
 
 module _ {m w v s t : ℕ} (r : Root m w v s t) where
   -- sums over k of w ^ (i k) v ^ (j k), where j is below i
   orthogonal-above : (i j : ℕ) → i < 2 ^ suc t → j < i → Cong m (sum (2 ^ suc t) (λ k. w ^ (i * k) * v ^ (j * k))) 0
-  orthogonal-above i j l g = c-sum (λ k _. apart k) ⨟ orthogonal t w (i - j) (r .half) (omega arith) (omega arith)
+  orthogonal-above i j l g = c-sum (λ k _. apart k) ⨟ orthogonal t w (i - j) (r .half-period) (omega arith) (omega arith)
     where
       exact : (i j : ℕ) → j < i → i ≡ (i - j) + j
       exact i j g = omega arith

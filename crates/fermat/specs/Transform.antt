@@ -2,7 +2,7 @@
 -- They are over functions of the index, so that rows, columns and lanes share one law.
 use Prim.Native.Nat.{ℕ, _+_, _-_, _*_, _%_, _^_}
 use Rattle.algebra.specs.Sum.{sum}
-use Rattle.fermat.specs.Field.{modulus, points, half, scale}
+use Rattle.fermat.specs.Field.{modulus, transformLength, inverseOfTwo, scale}
 
 -- the sum over j < n of x[j] times w to the power jk
 unfoldable pub powerSum : (n w : ℕ) → (ℕ → ℕ) → ℕ → ℕ
@@ -29,10 +29,10 @@ inverse2At m n v s x i j = (s * s * powerSum2 n v x i j) % m
 
 -- in the field of exponent t: the root is 2
 abbrev pub transformIn : ℕ → (ℕ → ℕ) → ℕ → ℕ
-transformIn t = transformAt (modulus t) (points t) 2
+transformIn t = transformAt (modulus t) (transformLength t) 2
 
 abbrev pub inverseIn : ℕ → (ℕ → ℕ) → ℕ → ℕ
-inverseIn t = inverseAt (modulus t) (points t) (half t) (scale t)
+inverseIn t = inverseAt (modulus t) (transformLength t) (inverseOfTwo t) (scale t)
 
 -- the circular convolution of x and y at j
 unfoldable pub circular : (n : ℕ) → (x y : ℕ → ℕ) → ℕ → ℕ

@@ -1,10 +1,10 @@
 // The numbers of a field, from its number: that of F_t is t.
 ghost use mathlib.Core.Path.{_≡_};
 ghost use Prim.Native.Nat.{_+_, _^_, _≤_};
-ghost use Rattle.fermat.specs.Field.{modulus, points, scale};
+ghost use Rattle.fermat.specs.Field.{modulus, transformLength, scale};
 
 // The levels of a transform: it makes a pass at each.
-pub fn levels_of(field: usize) -> u32
+pub fn halvings_of(field: usize) -> u32
     requires { ⌜ field ≤ 5 ⌝ }
     ensures { λ r. ⌜ r ≡ field + 1 ⌝ }
 {
@@ -20,11 +20,11 @@ pub fn bits_of(field: usize) -> u32
 }
 
 // N.
-pub fn points_of(field: usize) -> usize
+pub fn transform_length(field: usize) -> usize
     requires { ⌜ field ≤ 5 ⌝ }
-    ensures { λ r. ⌜ r ≡ points field ⌝ }
+    ensures { λ r. ⌜ r ≡ transformLength field ⌝ }
 {
-    1usize << levels_of(field)
+    1usize << halvings_of(field)
 }
 
 pub fn modulus_of(field: usize) -> u64
@@ -39,6 +39,6 @@ pub fn scale_of(field: usize) -> u64
     requires { ⌜ field ≤ 5 ⌝ }
     ensures { λ r. ⌜ r ≡ scale field ⌝ }
 {
-    let rest = bits_of(field) - levels_of(field);
+    let rest = bits_of(field) - halvings_of(field);
     modulus_of(field) - (1u64 << rest)
 }

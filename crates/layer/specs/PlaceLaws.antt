@@ -5,10 +5,10 @@ use native.Mathlib.Omega.{arith}
 use lib.Arith.{digits-lt}
 use lib.Pow.{pow-mono}
 use Rattle.algebra.specs.PlacesLaws.{part-ends}
-use Rattle.fermat.specs.Field.{modulus}
+use Rattle.fermat.specs.Field.{modulus, transformLength}
 use Rattle.layer.specs.Planned.{InRange, Planned}
 use Rattle.layer.specs.declared.shape.Layer.{Layer}
-use Rattle.layer.specs.Shape.{transformLength, tileRows, tileColumns, tileRow, tileColumn}
+use Rattle.layer.specs.Shape.{tileRows, tileColumns, tileRow, tileColumn}
 use Rattle.layer.specs.TileSizeLaws.{length-low}
 use Rattle.layer.specs.TileLaws.{planned-tiled, line-some}
 
@@ -25,7 +25,7 @@ module _ (l : Layer) (r : InRange l) where
   plane-end plane h = part-ends plane (l .outputs * l .inputs) (l .side * l .side) h
 
   -- a corner has room for the weights
-  pub corner-room : l .side * l .side ≤ transformLength l * l .side
+  pub corner-room : l .side * l .side ≤ transformLength (l .field) * l .side
   corner-room = mul-le-mul {m₁ = l .side} {m₂ = l .side} (omega (arith, length-low l r, r .side-high)) (omega arith)
 
   -- the row and the place of a value of a map

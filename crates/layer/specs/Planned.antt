@@ -11,7 +11,7 @@ use Rattle.layer.specs.Shape.{isConv, tconvSize, fullHeight, fullWidth}
 
 -- 8: in CONV, H + 2P is not below K; in TCONV, E is not below 1
 abbrev pub hasOutput : Layer → ℕ → Bool
-hasOutput l size = cond (isConv l) (leb (l .side) (size + 2 * l .padding)) (leb 1 (tconvSize size (l .side) (l .stride) (l .padding)))
+hasOutput l extent = cond (isConv l) (leb (l .side) (extent + 2 * l .padding)) (leb 1 (tconvSize extent (l .side) (l .stride) (l .padding)))
 
 -- 9: some are kept, and the last one lies within the full output
 unfoldable pub cropFits : (first count full : ℕ) → Bool
@@ -39,15 +39,15 @@ pub record InRange (l : Layer) : Type 0 where
   pub padding-high : l .padding < l .side
 
 -- `size` is in the range of a map's height or width
-pub record Extent (l : Layer) (size : ℕ) : Type 0 where
+pub record ExtentInRange (l : Layer) (extent : ℕ) : Type 0 where
   pub shape : InRange l
-  pub size-low : 1 ≤ size
-  pub size-high : size ≤ 512
+  pub low : 1 ≤ extent
+  pub high : extent ≤ 512
 
 -- rule 8 holds of it besides: no difference in its full output size is below 0
-pub record Outputs (l : Layer) (size : ℕ) : Type 0 where
-  pub extent : Extent l size
-  pub some : hasOutput l size ≡ true
+pub record Outputs (l : Layer) (extent : ℕ) : Type 0 where
+  pub in-range : ExtentInRange l extent
+  pub some : hasOutput l extent ≡ true
 
 -- 1 to 9, and bounds of the full output
 pub record Planned (l : Layer) : Type 0 where

@@ -9,37 +9,37 @@ use borrow.Author.Tests.{leb-true, eq-eqb, ne-eqb}
 use Rattle.algebra.specs.EveryLaws.{both-true}
 use Rattle.layer.specs.declared.shape.Layer.{Layer}
 use Rattle.layer.specs.Shape.{isConv, convSize, tconvSize, fullSize}
-use Rattle.layer.specs.Planned.{cropFits, InRange, Extent, Outputs}
+use Rattle.layer.specs.Planned.{cropFits, InRange, ExtentInRange, Outputs}
 
-pub height-extent : (l : Layer) → InRange l → Extent l (l .height)
-height-extent l r = record { shape = r; size-low = r .height-low; size-high = r .height-high }
+pub height-extent : (l : Layer) → InRange l → ExtentInRange l (l .height)
+height-extent l r = record { shape = r; low = r .height-low; high = r .height-high }
 
-pub width-extent : (l : Layer) → InRange l → Extent l (l .width)
-width-extent l r = record { shape = r; size-low = r .width-low; size-high = r .width-high }
+pub width-extent : (l : Layer) → InRange l → ExtentInRange l (l .width)
+width-extent l r = record { shape = r; low = r .width-low; high = r .width-high }
 
 -- a choice of two numbers that are at most n
 pub cond-le : (t : Bool) {a b n : ℕ} → a ≤ n → b ≤ n → cond t a b ≤ n
 cond-le true p q = p
 cond-le false p q = q
 
-module _ (l : Layer) (size : ℕ) where
+module _ (l : Layer) (extent : ℕ) where
   -- rule 8 by kind
-  pub conv-room : Outputs l size → l .kind ≡ 0 → l .side ≤ size + 2 * l .padding
-  conv-room o e = leb-true (l .side) (size + 2 * l .padding) (rw (eq-eqb (l .kind) 0 e) at (o .some))
+  pub conv-room : Outputs l extent → l .kind ≡ 0 → l .side ≤ extent + 2 * l .padding
+  conv-room o e = leb-true (l .side) (extent + 2 * l .padding) (rw (eq-eqb (l .kind) 0 e) at (o .some))
 
-  pub tconv-room : Outputs l size → (l .kind ≡ 0 → ⊥) → 2 * l .padding < (size - 1) * l .stride + l .side
+  pub tconv-room : Outputs l extent → (l .kind ≡ 0 → ⊥) → 2 * l .padding < (extent - 1) * l .stride + l .side
   unfolding tconvSize
   tconv-room o e =
-      let h = leb-true 1 (tconvSize size (l .side) (l .stride) (l .padding)) (rw (ne-eqb (l .kind) 0 e) at (o .some)) in omega arith
+      let h = leb-true 1 (tconvSize extent (l .side) (l .stride) (l .padding)) (rw (ne-eqb (l .kind) 0 e) at (o .some)) in omega arith
 
-  pub strides-high : Extent l size → (size - 1) * l .stride ≤ 2044
-  strides-high x = mul-le-mul {n₂ = 511} {m₂ = 4} (omega (arith, x .size-high)) (x .shape .stride-high)
+  pub strides-high : ExtentInRange l extent → (extent - 1) * l .stride ≤ 2044
+  strides-high x = mul-le-mul {n₂ = 511} {m₂ = 4} (omega (arith, x .high)) (x .shape .stride-high)
 
-  pub full-high : Extent l size → fullSize l size ≤ 2055
+  pub full-high : ExtentInRange l extent → fullSize l extent ≤ 2055
   unfolding convSize tconvSize
   full-high x =
       cond-le (isConv l)
-      (omega (arith, div-le-self (size + 2 * l .padding - l .side) (l .stride)))
+      (omega (arith, div-le-self (extent + 2 * l .padding - l .side) (l .stride)))
       (omega (arith, strides-high x))
 
 module _ (first count full : ℕ) where

@@ -3,7 +3,7 @@ use mathlib.Core.Bool.{Bool, cond}
 use Prim.Native.Nat.{ℕ, _+_, _*_, _-_, _/_, _%_}
 use lib.Dec.{eqb}
 use Rattle.base.specs.Number.{ceilingDiv}
-use Rattle.fermat.specs.Field.{points}
+use Rattle.fermat.specs.Field.{transformLength}
 use Rattle.layer.specs.declared.shape.Layer.{Layer}
 
 -- kind 0 is CONV, 1 is TCONV
@@ -27,15 +27,15 @@ outputCount l = l .outputs * l .rows * l .columns
 -- ---- the full output
 
 -- CONV: (H + 2P − K) / S, rounded down, plus 1
-unfoldable pub convSize : (size side stride padding : ℕ) → ℕ
-convSize size side stride padding = (size + 2 * padding - side) / stride + 1
+unfoldable pub convSize : (extent side stride padding : ℕ) → ℕ
+convSize extent side stride padding = (extent + 2 * padding - side) / stride + 1
 
 -- TCONV: (H − 1)S + K − 2P, 0 where that is negative
-unfoldable pub tconvSize : (size side stride padding : ℕ) → ℕ
-tconvSize size side stride padding = (size - 1) * stride + side - 2 * padding
+unfoldable pub tconvSize : (extent side stride padding : ℕ) → ℕ
+tconvSize extent side stride padding = (extent - 1) * stride + side - 2 * padding
 
 abbrev pub fullSize : Layer → ℕ → ℕ
-fullSize l size = cond (isConv l) (convSize size (l .side) (l .stride) (l .padding)) (tconvSize size (l .side) (l .stride) (l .padding))
+fullSize l extent = cond (isConv l) (convSize extent (l .side) (l .stride) (l .padding)) (tconvSize extent (l .side) (l .stride) (l .padding))
 
 -- E and F
 abbrev pub fullHeight : Layer → ℕ
@@ -46,17 +46,13 @@ fullWidth l = fullSize l (l .width)
 
 -- ---- tiles
 
--- N
-abbrev pub transformLength : Layer → ℕ
-transformLength l = points (l .field)
-
 -- 3N² words of scratch
 abbrev pub scratchWords : Layer → ℕ
-scratchWords l = 3 * (transformLength l * transformLength l)
+scratchWords l = 3 * (transformLength (l .field) * transformLength (l .field))
 
 -- L = N − K + 1: a tile holds L by L places of the stride-1 grid
 abbrev pub tileSide : Layer → ℕ
-tileSide l = transformLength l - l .side + 1
+tileSide l = transformLength (l .field) - l .side + 1
 
 -- the stride-1 grid rows from one wanted row to the next: S in CONV, 1 in TCONV
 abbrev pub gridStep : Layer → ℕ

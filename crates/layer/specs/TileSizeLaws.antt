@@ -4,16 +4,17 @@ use native.Mathlib.Nat.{div-le-self, mul-le-mul}
 use native.Mathlib.Omega.{arith}
 use lib.Pow.{pow-mono}
 use Rattle.base.specs.Number.{ceilingDiv}
+use Rattle.fermat.specs.Field.{transformLength}
 use Rattle.layer.specs.PlannedLaws.{cond-le}
 use Rattle.layer.specs.Planned.{InRange, Planned, Wanted}
 use Rattle.layer.specs.declared.shape.Layer.{Layer}
-use Rattle.layer.specs.Shape.{isConv, transformLength, tileSide, span}
+use Rattle.layer.specs.Shape.{isConv, tileSide, span}
 
 module _ (l : Layer) (r : InRange l) where
-  pub length-low : 32 ≤ transformLength l
+  pub length-low : 32 ≤ transformLength (l .field)
   length-low = pow-mono {i = 5} {j = l .field + 1} (omega (arith, r .field-low))
 
-  pub length-high : transformLength l ≤ 64
+  pub length-high : transformLength (l .field) ≤ 64
   length-high = pow-mono {i = l .field + 1} {j = 6} (omega (arith, r .field-high))
 
   pub tile-side-low : 22 ≤ tileSide l

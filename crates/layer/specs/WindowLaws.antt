@@ -86,7 +86,7 @@ module _ {K H L W : ℕ} {left right left₂ right₂ : ℕ → Bool} {to from t
   pub exchange-product : (x y : ℕ → ℕ → ℤ)
       → sumZ K (λ a. sumZ L (λ b. x a b *ℤ when (left a) (when (left₂ b) (y (to a) (to₂ b)))))
       ≡ sumZ H (λ i. sumZ W (λ j. y i j *ℤ when (right i) (when (right₂ j) (x (from i) (from₂ j)))))
-  exchange-product x y = simp (mul-when, sum-when) (sum-cong integers K _ _ in-row ∙ exchange rows row ∙ sum-cong integers H _ _ turned)
+  exchange-product x y = simp (mul-when, sum-when) (sum-cong integers K _ _ in-row ∙ exchange rows row ∙ sum-cong integers H _ _ exchanged)
     where
       row : (a i : ℕ) → ℤ
       row a i = sumZ W (λ j. when (right₂ j) (x a (from₂ j) *ℤ y i j))
@@ -94,9 +94,9 @@ module _ {K H L W : ℕ} {left right left₂ right₂ : ℕ → Bool} {to from t
       in-row : (a : ℕ) → a < K → when (left a) (sumZ L (λ b. when (left₂ b) (x a b *ℤ y (to a) (to₂ b)))) ≡ when (left a) (row a (to a))
       in-row a l = ap (when (left a)) (exchange columns (λ b j. x a b *ℤ y (to a) j))
 
-      turned : (i : ℕ) → i < H
+      exchanged : (i : ℕ) → i < H
           → when (right i) (row (from i) i) ≡ when (right i) (sumZ W (λ j. when (right₂ j) (y i j *ℤ x (from i) (from₂ j))))
-      turned i l = ap (when (right i)) (sum-cong integers W _ _ (λ j k. ap (when (right₂ j)) (*ℤ-comm (x (from i) (from₂ j)) (y i j))))
+      exchanged i l = ap (when (right i)) (sum-cong integers W _ _ (λ j k. ap (when (right₂ j)) (*ℤ-comm (x (from i) (from₂ j)) (y i j))))
 
 -- ---- a window
 

@@ -33,14 +33,14 @@ pub fn output_count(layer: Layer) -> usize
 }
 
 // E of a map's height, F of its width.
-pub fn full_size(layer: Layer, size: usize) -> usize
-    requires { ⌜ Outputs layer size ⌝ }
-    ensures { λ r. ⌜ r ≡ fullSize layer size ⌝ }
+pub fn full_size(layer: Layer, extent: usize) -> usize
+    requires { ⌜ Outputs layer extent ⌝ }
+    ensures { λ r. ⌜ r ≡ fullSize layer extent ⌝ }
 {
     if layer.kind == 0 {
-        (size + 2 * layer.padding - layer.side) / layer.stride + 1
+        (extent + 2 * layer.padding - layer.side) / layer.stride + 1
     } else {
-        (size - 1) * layer.stride + layer.side - 2 * layer.padding
+        (extent - 1) * layer.stride + layer.side - 2 * layer.padding
     }
 }
 
@@ -49,7 +49,7 @@ pub fn scratch_words(layer: Layer) -> usize
     requires { ⌜ InRange layer ⌝ }
     ensures { λ r. ⌜ r ≡ scratchWords layer ⌝ }
 {
-    let n = field::points_of(layer.field);
+    let n = field::transform_length(layer.field);
     3 * (n * n)
 }
 
@@ -58,7 +58,7 @@ pub fn tile_side(layer: Layer) -> usize
     requires { ⌜ InRange layer ⌝ }
     ensures { λ r. ⌜ r ≡ tileSide layer ⌝ }
 {
-    field::points_of(layer.field) - layer.side + 1
+    field::transform_length(layer.field) - layer.side + 1
 }
 
 // The stride-1 grid rows from one wanted row to the next.

@@ -25,10 +25,10 @@ fn write_levels(shift: usize, bound: usize, outputs: &[i32], levels: &mut [i16])
 {
     let bits = shift as u32;
     let most = bound as u32;
-    let half = (1 << bits) / 2;
+    let rounding = (1 << bits) / 2;
     let mut i = 0;
     while i < outputs.len() {
-        let level = value::level_of(outputs[i], bits, half, most);
+        let level = value::level_of(outputs[i], bits, rounding, most);
         levels[i] = level;
         i += 1;
     }

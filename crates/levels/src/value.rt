@@ -14,13 +14,13 @@ fn sign(value: i32) -> i16
     if value < 0 { -1 } else { 1 }
 }
 
-// `bits` is the shift, `half` half of 2^shift, `most` the bound B. A size and a half of at most 2^30 make less than 2^32. The sign is a
+// `bits` is the shift, `rounding` half of 2^shift, `most` the bound B. A size and a rounding of at most 2^30 make less than 2^32. The sign is a
 // factor: with an `if` around the result the compiler makes two ways, one for each sign, and computes both for every value.
-pub(crate) fn level_of(value: i32, bits: u32, half: u32, most: u32) -> i16
-    requires { ⌜ (bits ≤ 31) × (half ≡ 2 ^ bits / 2) × (most ≤ 32767) ⌝ }
+pub(crate) fn level_of(value: i32, bits: u32, rounding: u32, most: u32) -> i16
+    requires { ⌜ (bits ≤ 31) × (rounding ≡ 2 ^ bits / 2) × (most ≤ 32767) ⌝ }
     ensures { λ r. ⌜ r ≡ level bits most value ⌝ }
 {
-    let nearest = (number::size(value) + half) >> bits;
+    let nearest = (number::size(value) + rounding) >> bits;
     let clamped = if nearest < most { nearest } else { most };
     clamped as i16 * sign(value)
 }

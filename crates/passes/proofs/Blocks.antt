@@ -26,12 +26,12 @@ module _ (step : Step) (b c unit rows lanes half : ℕ) where
   pub record Blocks (at : ℕ) (xs ys : List ℕ) : Type 0 where
     pub count : ℕ
     pub start : at ≡ count * (2 * half)
-    pub size : length ys ≡ length xs
+    pub same-length : length ys ≡ length xs
     pub done : EachBlock count half (StagePair step b c unit rows lanes) (λ i. getD xs i 0) (λ i. getD ys i 0)
     pub rest : (i : ℕ) → at ≤ i → getD ys i 0 ≡ getD xs i 0
 
   pub blocks-none : (xs : List ℕ) → Blocks 0 xs xs
-  blocks-none xs = record { count = 0; start = omega arith; size = refl; done = record { pair = λ q i l h. absurd (omega arith) }; rest = λ i l. refl }
+  blocks-none xs = record { count = 0; start = omega arith; same-length = refl; done = record { pair = λ q i l h. absurd (omega arith) }; rest = λ i l. refl }
 
   pub blocks-all : {at : ℕ} {xs ys : List ℕ} → Blocks at xs ys → length xs ≤ at → Passed step b c unit rows lanes half xs ys
   blocks-all {at} {xs} {ys} all end = record { stages = λ blocks e. record { pair = λ q i lq li. all .done .pair q i (before blocks q i e lq li (decLt q (all .count))) li } }
@@ -47,7 +47,7 @@ module _ (step : Step) (b c unit rows lanes half : ℕ) where
   blocks-more at s xs ys us es le len before stage = record {
     count = count + 1;
     start = omega arith;
-    size = same-len-mid at s ys us (len ∙ sym (part-length at s ys le)) ∙ before .size;
+    same-length = same-len-mid at s ys us (len ∙ sym (part-length at s ys le)) ∙ before .same-length;
     done = record { pair = λ q i lq li. go q i lq li (decLt q count) };
     rest = λ i l. getD-put-mid-after 0 ys us at s le len i (omega arith) ∙ before .rest i (omega arith);
   }

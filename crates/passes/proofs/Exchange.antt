@@ -14,7 +14,7 @@ module _ {s : ℕ → ℕ} {n : ℕ} (i : Involution n s) {xs : List ℕ} (len :
   -- no word moves where no index from a up to b is the lower of two
   pub exchange-none : {a b : ℕ} → ((k : ℕ) → a ≤ k → k < b → s k ≤ k) → Exchanged s a b xs xs
   exchange-none {a} {b} done = record {
-    size = refl;
+    same-length = refl;
     here = λ p l h. ap (λ (k : ℕ). getD xs k 0) (go p (omega arith) h (decLt (s p) p));
     kept = λ p out. refl;
   }
@@ -43,7 +43,7 @@ module _ {s : ℕ → ℕ} {n : ℕ} (i : Involution n s) {xs : List ℕ} (len :
   -- from a up to b, and then from b up to c
   pub exchange-then : {a b c : ℕ} {ys zs : List ℕ} → Exchanged s a b xs ys → Exchanged s b c ys zs → a ≤ b → b ≤ c → Exchanged s a c xs zs
   exchange-then {a} {b} {c} u w lb lc =
-      written-again u (written-as w (λ p l h. h) (λ p h. h) (λ p l h. u .kept (s p) (apart p (omega (arith, u .size)) h)))
+      written-again u (written-as w (λ p l h. h) (λ p h. h) (λ p l h. u .kept (s p) (apart p (omega (arith, u .same-length)) h)))
       (λ p l h. to p h (decLt (min p (s p)) b)) (λ p h. (h .0, omega arith)) (λ p h. (omega arith, h .1))
     where
       apart : (p : ℕ) → p < n → LowerIn s b c p → LowerIn s a b (s p) → ⊥
@@ -58,11 +58,11 @@ module _ {s : ℕ → ℕ} {n a k : ℕ} (i : Involution n s) {xs ys : List ℕ}
   pub exchange-step : {b q : ℕ} {zs : List ℕ} → b ≡ k + 1 → s k ≡ q → k < q → k < n → zs ≡ set (set ys k (getD ys q 0)) q (getD ys k 0)
       → Exchanged s a b xs zs
   exchange-step next e d l new =
-      exchange-then i len w (rw (new, next, ← e) (exchange-one i (w .size ∙ len) k (omega arith) l)) la (omega arith)
+      exchange-then i len w (rw (new, next, ← e) (exchange-one i (w .same-length ∙ len) k (omega arith) l)) la (omega arith)
 
   -- k is not the lower of two
   pub exchange-skip : s k ≤ k → Exchanged s a (k + 1) xs ys
-  exchange-skip d = exchange-then i len w (exchange-none i (w .size ∙ len) only) la (omega arith)
+  exchange-skip d = exchange-then i len w (exchange-none i (w .same-length ∙ len) only) la (omega arith)
     where
       only : (p : ℕ) → k ≤ p → p < k + 1 → s p ≤ p
       only p above below = let e : p ≡ k = omega arith in rw e d

@@ -8,13 +8,13 @@ use native.Mathlib.Numerals.{add-one}
 use native.Mathlib.Omega.{arith}
 use lib.ListN.{length}
 use lib.Pow.{pow-pos}
-use Rattle.passes.specs.Butterfly.{Bound, AtMost, Sized}
+use Rattle.passes.specs.Butterfly.{Bound, AtMost, StageSizes}
 use Rattle.passes.specs.Passes.{passes, stepOf, levelOf, WholeBlocks, Passed, Grid, Pruned, Transformed}
 use Rattle.passes.specs.PassLaws.{forward-all, inverse-all}
 use Rattle.passes.specs.declared.butterfly.Step.{Step}
 use Rattle.passes.specs.declared.Direction.{Direction}
 use Rattle.passes.specs.declared.Direction.the-variants.{Forward, Inverse}
-use Rattle.passes.proofs.Levels.{level-lt, quotient, halved, level, power-le, doubled-bound, sized}
+use Rattle.passes.proofs.Levels.{level-lt, quotient, half-rows, level, power-le, doubled-bound, sized}
 use Rattle.passes.proofs.PassRows.{passed-most}
 use Rattle.passes.proofs.ForwardLanes.{ForwardLanes, forward-lanes-none, forward-lanes-more}
 use Rattle.passes.proofs.InverseLanes.{InverseLanes, inverse-lanes-none, inverse-lanes-more}
@@ -29,14 +29,14 @@ Lanes Forward b unit n filled lanes p s xs ys = ForwardLanes b unit n filled lan
 Lanes Inverse b unit n filled lanes p s xs ys = InverseLanes b unit lanes p s xs ys
 
 pub record After (direction : Direction) (b c unit n filled lanes p s : ℕ) (xs ys : List ℕ) : Type 0 where
-  pub size : length ys ≡ length xs
+  pub same-length : length ys ≡ length xs
   pub most : AtMost (c * 2 ^ p) ys
   pub state : Lanes direction b unit n filled lanes p s xs ys
 
 pub after-none : (direction : Direction) {b c unit n filled lanes : ℕ} {xs : List ℕ} → length xs ≡ n * lanes → AtMost c xs → Pruned direction n filled lanes xs
     → After direction b c unit n filled lanes 0 n xs xs
 after-none direction {b} {c} {unit} {n} {filled} {lanes} {xs} size most pruned =
-    record { size = refl; most = λ i l. omega (arith, most i l); state = start direction pruned }
+    record { same-length = refl; most = λ i l. omega (arith, most i l); state = start direction pruned }
   where
     start : (direction : Direction) → Pruned direction n filled lanes xs → Lanes direction b unit n filled lanes 0 n xs xs
     start Forward zeros = forward-lanes-none b unit n filled lanes xs size zeros
@@ -63,7 +63,7 @@ module _ {direction : Direction} {s n lanes unit b c filled p i rows u e : ℕ} 
 
   -- what it asks
   pub pass-asks : let half = n / 2 ^ (i + 1) * lanes in
-      Bound b e × ((WholeBlocks (length ys) half × Sized (2 * half) rows lanes half u b) × AtMost e ys)
+      Bound b e × ((WholeBlocks (length ys) half × StageSizes (2 * half) rows lanes half u b) × AtMost e ys)
   pass-asks =
       let z = level bound grid i level-short in
       let some = filled-some direction lanes xs (omega (arith, grid .power, pow-pos (passes n))) pruned in
@@ -71,7 +71,7 @@ module _ {direction : Direction} {s n lanes unit b c filled p i rows u e : ℕ} 
         doubled-bound bound grid p short,
         (
           (
-            record { blocks = 2 ^ i; whole = before .size ∙ size ∙ z .whole },
+            record { blocks = 2 ^ i; whole = before .same-length ∙ size ∙ z .whole },
             sized z rows (omega (arith, call .rows-are, some, z .some)) (omega (arith, call .rows-are)),
           ),
           before .most,
@@ -85,24 +85,24 @@ module _ {direction : Direction} {s n lanes unit b c filled p i rows u e : ℕ} 
       let made = rw (call .rows-are, call .unit-is, call .bound-is, call .step-is) at passed in
       let twice : 2 * (c * 2 ^ p) ≡ c * 2 ^ suc p = rw (two-pow-succ p) (omega arith) in
       subst (λ (q : ℕ). After direction b c unit n filled lanes q (n / 2 ^ (p + 1)) xs zs) (sym (add-one p)) record {
-        size = same ∙ before .size;
+        same-length = same ∙ before .same-length;
         most = λ j l. rw twice at (passed-most made (2 ^ i) (whole ∙ level bound grid i level-short .whole) same (before .most) j l);
         state = next direction pruned (call .level-is) (before .state) made;
       }
     where
       whole : length ys ≡ s
-      whole = before .size ∙ size
+      whole = before .same-length ∙ size
 
       next : (direction : Direction) → Pruned direction n filled lanes xs → i ≡ levelOf direction p (passes n - 1 - p)
           → Lanes direction b unit n filled lanes p (n / 2 ^ p) xs ys
           → Passed (stepOf direction) b (c * 2 ^ p) (unit * 2 ^ i) (min filled (n / 2 ^ (i + 1))) lanes (n / 2 ^ (i + 1) * lanes) ys zs
           → Lanes direction b unit n filled lanes (suc p) (n / 2 ^ (p + 1)) xs zs
       next Forward zeros at state passed =
-          forward-lanes-more (level bound grid p short) (rw (halved bound grid p short) at state) whole (rw at at passed)
+          forward-lanes-more (level bound grid p short) (rw (half-rows bound grid p short) at state) whole (rw at at passed)
       next Inverse all at state passed =
           let d : ℕ = passes n - 1 - p in
           let blocks : n / 2 ^ (p + 1) ≡ 2 ^ d = quotient bound grid (p + 1) d (omega arith) in
           let half : n / 2 ^ (d + 1) ≡ 2 ^ p = quotient bound grid (d + 1) p (omega arith) in
           rw blocks
-          (inverse-lanes-more (rw half at (level bound grid d (omega arith))) (bound .half .bits-low) (omega (arith, power-le bound grid p short))
-          (rw (halved bound grid p short, blocks) at state) whole (rw (at, half) at passed))
+          (inverse-lanes-more (rw half at (level bound grid d (omega arith))) (bound .halved .bits-low) (omega (arith, power-le bound grid p short))
+          (rw (half-rows bound grid p short, blocks) at state) whole (rw (at, half) at passed))

@@ -4,7 +4,7 @@ use Prim.Native.Nat.{ℕ, suc, _+_, _-_, _*_, _/_, _^_, _<_, _≤_}
 use native.Mathlib.Nat.{two-pow-succ, mul-le-mul-left, mul-le-mul-right, dvd-mul-left, dvd-mul-right, pos-of-dvd-of-pos}
 use native.Mathlib.Omega.{arith}
 use lib.Pow.{pow-pos, pow-mono, pow-add, shl-shr}
-use Rattle.passes.specs.Butterfly.{Bound, Sized}
+use Rattle.passes.specs.Butterfly.{Bound, StageSizes}
 use Rattle.passes.specs.Passes.{passes, levelOf, Grid}
 use Rattle.passes.specs.declared.Direction.{Direction}
 use Rattle.passes.specs.declared.Direction.the-variants.{Forward, Inverse}
@@ -27,8 +27,8 @@ module _ {s n lanes unit b c : ℕ} (bound : Bound b c) (grid : Grid s n lanes u
   quotient i k e =
       ap (λ (x : ℕ). x / 2 ^ i) (grid .power ∙ ap (λ (l : ℕ). 2 ^ l) (sym e ∙ omega arith) ∙ pow-add 2 k i) ∙ shl-shr (2 ^ k) i
 
-  pub halved : (i : ℕ) → i < passes n → n / 2 ^ i ≡ 2 * (n / 2 ^ (i + 1))
-  halved i l =
+  pub half-rows : (i : ℕ) → i < passes n → n / 2 ^ i ≡ 2 * (n / 2 ^ (i + 1))
+  half-rows i l =
       let k : ℕ = passes n - (i + 1) in
       quotient i (suc k) (omega arith) ∙ two-pow-succ k ∙ omega (arith, quotient (i + 1) k (omega arith))
 
@@ -38,9 +38,9 @@ module _ {s n lanes unit b c : ℕ} (bound : Bound b c) (grid : Grid s n lanes u
       let h : ℕ = n / 2 ^ (i + 1) in
       let k : ℕ = passes n - i in
       let rows : n ≡ g * (2 * h) =
-      grid .power ∙ ap (λ (e : ℕ). 2 ^ e) (omega arith) ∙ pow-add 2 i k ∙ ap (λ (e : ℕ). g * e) (sym (quotient i k (omega arith)) ∙ halved i l) in
+      grid .power ∙ ap (λ (e : ℕ). 2 ^ e) (omega arith) ∙ pow-add 2 i k ∙ ap (λ (e : ℕ). g * e) (sym (quotient i k (omega arith)) ∙ half-rows i l) in
       let period : 2 * (unit * g * h) ≡ 2 * b = twice unit g h ∙ ap (λ (e : ℕ). unit * e) (sym rows) ∙ grid .period in
-      let some : 0 < unit * g * h = omega (arith, bound .half .bits-low) in
+      let some : 0 < unit * g * h = omega (arith, bound .halved .bits-low) in
       record {
         whole = grid .whole ∙ ap (λ (e : ℕ). e * lanes) rows ∙ by-lanes g h lanes;
         turns = omega (arith, period);
@@ -59,14 +59,14 @@ module _ {s n lanes unit b c : ℕ} (bound : Bound b c) (grid : Grid s n lanes u
 
   -- the unit of a level, and the bound after p passes
   pub unit-most : (i : ℕ) → i < passes n → unit * 2 ^ i ≤ 64
-  unit-most i l = omega (arith, mul-le-mul-left unit (power-le i l), grid .period, bound .half .bits-high)
+  unit-most i l = omega (arith, mul-le-mul-left unit (power-le i l), grid .period, bound .halved .bits-high)
 
   pub doubled-bound : (p : ℕ) → p < passes n → Bound b (c * 2 ^ p)
   doubled-bound p l = bound-times bound (2 ^ p) (pow-pos p) (omega (arith, mul-le-mul-left c (power-le p l), grid .room))
 
 -- the sizes of a pass's stages, over some of the rows of a half
 pub sized : {s lanes unit b g h : ℕ} → Level s lanes unit b g h → (rows : ℕ) → 0 < rows → rows ≤ h
-    → Sized (2 * (h * lanes)) rows lanes (h * lanes) (unit * g) b
+    → StageSizes (2 * (h * lanes)) rows lanes (h * lanes) (unit * g) b
 sized {lanes = lanes} {unit} {g = g} z rows some le = record {
   whole = omega arith;
   inside = mul-le-mul-right lanes le;

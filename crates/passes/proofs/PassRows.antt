@@ -9,7 +9,7 @@ use lib.Arith.{digits-div}
 use lib.ListN.{length, getD}
 use Rattle.algebra.specs.PlacesLaws.{part-ends}
 use Rattle.algebra.specs.CongruenceLaws.{c-eq}
-use Rattle.passes.specs.Butterfly.{Made, AtMost}
+use Rattle.passes.specs.Butterfly.{StepMakes, AtMost}
 use Rattle.passes.specs.Halving.{word}
 use Rattle.passes.specs.Passes.{EachBlock, StagePair, Passed}
 use Rattle.passes.specs.declared.butterfly.Step.{Step}
@@ -18,7 +18,7 @@ use Rattle.passes.specs.declared.butterfly.Step.the-variants.{Plain, For
 -- ---- butterflies of every step
 
 -- two words that are 0 stay 0
-made-zeros : (step : Step) (b c t : ℕ) → Made step b c t 0 0 0 0
+made-zeros : (step : Step) (b c t : ℕ) → StepMakes step b c t 0 0 0 0
 made-zeros Plain b c t = record { plus = c-eq (omega arith); minus = c-eq (omega arith); low = omega arith; high = omega arith }
 made-zeros Forward b c t = record { plus = c-eq (omega arith); minus = c-eq (omega (arith, zero-mul (2 ^ t))); low = omega arith; high = omega arith }
 made-zeros Inverse b c t = record {
@@ -28,7 +28,7 @@ made-zeros Inverse b c t = record {
   high = omega arith;
 }
 
-made-most : (step : Step) (b c t u v y z : ℕ) → Made step b c t u v y z → (y ≤ 2 * c) × (z ≤ 2 * c)
+made-most : (step : Step) (b c t u v y z : ℕ) → StepMakes step b c t u v y z → (y ≤ 2 * c) × (z ≤ 2 * c)
 made-most Plain b c t u v y z m = (omega (arith, m .low), omega (arith, m .high))
 made-most Forward b c t u v y z m = (omega (arith, m .low), omega (arith, m .high))
 made-most Inverse b c t u v y z m = (omega (arith, m .low), omega (arith, m .high))
@@ -92,7 +92,7 @@ module _ {step : Step} {b c unit rows lanes half : ℕ} {ys zs : List ℕ} (pass
 -- every row is made as the step says, also one of zeros
 pub rows-made : {step : Step} {b c unit rows lanes h : ℕ} {ys zs : List ℕ} → rows ≤ h → Passed step b c unit rows lanes (h * lanes) ys zs
     → (blocks : ℕ) → length ys ≡ blocks * (2 * (h * lanes)) → Empty blocks (rows * lanes) (h * lanes) ys → (j : ℕ) → j < lanes
-    → EachBlock blocks h (λ r. Made step b c (unit * r)) (λ i. word lanes i j ys) (λ i. word lanes i j zs)
+    → EachBlock blocks h (λ r. StepMakes step b c (unit * r)) (λ i. word lanes i j ys) (λ i. word lanes i j zs)
 rows-made {step} {b} {c} {unit} {rows} {lanes} {h} {ys} {zs} le passed blocks whole empty j lj =
     record { pair = λ q r lq lr. rw (lower-place q h r lanes j, upper-place q h r lanes j) (go q r lq lr (decLt r rows)) }
   where
@@ -100,7 +100,7 @@ rows-made {step} {b} {c} {unit} {rows} {lanes} {h} {ys} {zs} le passed blocks wh
     inside = mul-le-mul-right lanes le
 
     go : (q r : ℕ) → q < blocks → r < h → Dec (r < rows) → let at = q * (2 * (h * lanes)) in let i = r * lanes + j in
-        Made step b c (unit * r) (getD ys (at + i) 0) (getD ys (at + (h * lanes + i)) 0) (getD zs (at + i) 0) (getD zs (at + (h * lanes + i)) 0)
+        StepMakes step b c (unit * r) (getD ys (at + i) 0) (getD ys (at + (h * lanes + i)) 0) (getD zs (at + i) 0) (getD zs (at + (h * lanes + i)) 0)
     go q r lq lr (yes l) =
         let last : r * lanes + j < rows * lanes = omega (arith, part-ends r rows lanes l) in
         rw (digits-div r {m = lanes} {r = j} lj) at (passed .stages blocks whole .pair q (r * lanes + j) lq (omega (arith, inside)) .here (omega arith, omega arith))

@@ -10,7 +10,7 @@ use lib.Arith.{digits-div}
 use lib.ListN.{length}
 use Rattle.algebra.specs.Places.{Run}
 use Rattle.algebra.specs.PlacesLaws.{part-ends}
-use Rattle.passes.specs.Butterfly.{Relation, Made, Ready, Paired, PairsAtMost, AtMost, Staged, Joined}
+use Rattle.passes.specs.Butterfly.{Relation, StepMakes, TakesPower, Paired, PairsAtMost, AtMost, Staged, Joined}
 use Rattle.passes.specs.declared.butterfly.Step.{Step}
 use Rattle.passes.specs.declared.butterfly.Step.the-variants.{Plain, Forward, Inverse}
 use Rattle.passes.specs.WordLaws.{plain-inverse}
@@ -26,13 +26,13 @@ row-of r n i h =
     ap (λ (k : ℕ). k / n) e ∙ digits-div r (omega arith)
 
 -- every step takes the powers of the rows after row 0
-pub ready : (step : Step) (b t : ℕ) → 0 < t → t < b → Ready step b t
+pub ready : (step : Step) (b t : ℕ) → 0 < t → t < b → TakesPower step b t
 ready Plain b t lo hi = hi
 ready Forward b t lo hi = hi
 ready Inverse b t lo hi = (lo, hi)
 
 -- a plain butterfly is that of every step with the power 1
-pub plain-made : (step : Step) (b c t : ℕ) {u v y z : ℕ} → t ≡ 0 → Made Plain b c 0 u v y z → Made step b c t u v y z
+pub plain-made : (step : Step) (b c t : ℕ) {u v y z : ℕ} → t ≡ 0 → StepMakes Plain b c 0 u v y z → StepMakes step b c t u v y z
 plain-made Plain b c t e p = p
 plain-made Forward b c t e p = rw e p
 plain-made Inverse b c t {u} {v} {y} {z} e p =
@@ -49,7 +49,7 @@ pairs-lent c half xs ys size small all inside apart i h =
 
 module _ (step : Step) (b c unit half lanes : ℕ) where
   abbrev rowMade : ℕ → Relation
-  rowMade i = Made step b c (unit * (i / lanes))
+  rowMade i = StepMakes step b c (unit * (i / lanes))
 
   -- the state of the loop at row r: the rows from 1 to r − 1 are done
   abbrev pub Rows : ℕ → List ℕ → List ℕ → Type 0
@@ -59,14 +59,14 @@ module _ (step : Step) (b c unit half lanes : ℕ) where
   rows-none xs = paired-nothing rowMade half xs (λ i h. omega arith)
 
   pub rows-longer : (r at t : ℕ) (xs ys zs : List ℕ) → 0 < r → at ≡ r * lanes → t ≡ unit * r → Rows r xs ys
-      → Paired (λ _. Made step b c t) (Run at lanes) half ys zs → Rows (r + 1) xs zs
+      → Paired (λ _. StepMakes step b c t) (Run at lanes) half ys zs → Rows (r + 1) xs zs
   rows-longer r at t xs ys zs some ea et all new =
-      paired-again rowMade (λ _. Made step b c t) half xs ys zs all new
+      paired-again rowMade (λ _. StepMakes step b c t) half xs ys zs all new
       (λ i p q. omega arith)
       (λ i h. to i h (decLt i (r * lanes)))
       (λ i p. (p .0, omega (arith, next)))
       (λ i q. (omega (arith, part-ends 0 r lanes some, zero-mul lanes), omega (arith, next)))
-      (λ i u v y z q made. subst (λ (e : ℕ). Made step b c e u v y z) (et ∙ ap (λ (k : ℕ). unit * k) (sym (row-of r lanes i (here i q)))) made)
+      (λ i u v y z q made. subst (λ (e : ℕ). StepMakes step b c e u v y z) (et ∙ ap (λ (k : ℕ). unit * k) (sym (row-of r lanes i (here i q)))) made)
     where
       next : (r + 1) * lanes ≡ r * lanes + lanes
       next = omega arith
@@ -79,10 +79,10 @@ module _ (step : Step) (b c unit half lanes : ℕ) where
       to i h (no l) = inr (omega arith, omega (arith, next))
 
   -- row 0 comes last
-  pub rows-all : (rows : ℕ) (xs ys zs : List ℕ) → 0 < rows → Rows rows xs ys → Paired (λ _. Made Plain b c 0) (Run 0 lanes) half ys zs
+  pub rows-all : (rows : ℕ) (xs ys zs : List ℕ) → 0 < rows → Rows rows xs ys → Paired (λ _. StepMakes Plain b c 0) (Run 0 lanes) half ys zs
       → Staged step b c unit rows lanes half xs zs
   rows-all rows xs ys zs some all new =
-      paired-again rowMade (λ _. Made Plain b c 0) half xs ys zs all new
+      paired-again rowMade (λ _. StepMakes Plain b c 0) half xs ys zs all new
       (λ i p q. omega arith)
       (λ i h. to i h (decLt i lanes))
       (λ i p. (omega arith, omega arith))

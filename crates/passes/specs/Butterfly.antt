@@ -20,11 +20,11 @@ pub record Multiple (b c : ℕ) : Type 0 where
 -- c bounds the words: twice a multiple of the modulus, so that adding c or its half keeps a difference from going below 0
 pub record Bound (b c : ℕ) : Type 0 where
   pub even : c ≡ 2 * (c / 2)
-  pub half : Multiple b (c / 2)
+  pub halved : Multiple b (c / 2)
   pub fits : c < 9223372036854775808
 
 -- r is d 2 ^ t
-pub record Turned (b c d t r : ℕ) : Type 0 where
+pub record TimesPower (b c d t r : ℕ) : Type 0 where
   pub value : Cong (2 ^ b + 1) r (d * 2 ^ t)
   pub bound : r ≤ c + 2 ^ b
 
@@ -47,16 +47,16 @@ pub record Joined (m e s u v y z : ℕ) : Type 0 where
   pub high : z ≤ e
 
 -- what a step with the power 2 ^ t makes of words that are at most c. 2 ^ (b − t) is −1 / 2 ^ t
-abbrev pub Made : Step → ℕ → ℕ → ℕ → Relation
-Made Plain b c t = Parted (2 ^ b + 1) (2 * c) 1
-Made Forward b c t = Parted (2 ^ b + 1) (2 * c) (2 ^ t)
-Made Inverse b c t = Joined (2 ^ b + 1) (2 * c) (2 ^ (b - t))
+abbrev pub StepMakes : Step → ℕ → ℕ → ℕ → Relation
+StepMakes Plain b c t = Parted (2 ^ b + 1) (2 * c) 1
+StepMakes Forward b c t = Parted (2 ^ b + 1) (2 * c) (2 ^ t)
+StepMakes Inverse b c t = Joined (2 ^ b + 1) (2 * c) (2 ^ (b - t))
 
 -- the powers 2 ^ t that a step takes
-abbrev pub Ready : Step → ℕ → ℕ → Type 0
-Ready Plain b t = t < b
-Ready Forward b t = t < b
-Ready Inverse b t = (0 < t) × (t < b)
+abbrev pub TakesPower : Step → ℕ → ℕ → Type 0
+TakesPower Plain b t = t < b
+TakesPower Forward b t = t < b
+TakesPower Inverse b t = (0 < t) × (t < b)
 
 -- the words u and v are as they were
 pub record Same (u v y z : ℕ) : Type 0 where
@@ -82,10 +82,10 @@ AtMost c xs = (i : ℕ) → i < length xs → getD xs i 0 ≤ c
 
 -- a stage over the first rows of each half, `lanes` words each: row r has the power 2 ^ (unit r)
 abbrev pub Staged : Step → (b c unit rows lanes half : ℕ) → List ℕ → List ℕ → Type 0
-Staged step b c unit rows lanes half xs ys = Paired (λ i. Made step b c (unit * (i / lanes))) (Run 0 (rows * lanes)) half xs ys
+Staged step b c unit rows lanes half xs ys = Paired (λ i. StepMakes step b c (unit * (i / lanes))) (Run 0 (rows * lanes)) half xs ys
 
 -- the sizes of a stage: its rows lie in each half, and their powers stay below b
-pub record Sized (n rows lanes half unit b : ℕ) : Type 0 where
+pub record StageSizes (n rows lanes half unit b : ℕ) : Type 0 where
   pub whole : n ≡ 2 * half
   pub inside : rows * lanes ≤ half
   pub some : 0 < rows

@@ -5,7 +5,7 @@ use native.Mathlib.Nat.{mul-le-mul-left, two-pow-succ}
 use native.Mathlib.Numerals.{add-one}
 use native.Mathlib.Omega.{arith}
 use lib.Pow.{pow-pos, pow-mono}
-use Rattle.fermat.specs.Field.{modulus, points}
+use Rattle.fermat.specs.Field.{modulus, transformLength}
 use Rattle.fermat.specs.FieldSizeLaws.{bits-high, power-high}
 use Rattle.passes.specs.Butterfly.{Bound}
 use Rattle.passes.specs.Passes.{passes, Grid}
@@ -24,16 +24,16 @@ module _ (t : ℕ) (high : t ≤ 5) where
       let half : 2 * modulus t / 2 ≡ modulus t = omega arith in
       record {
         even = omega arith;
-        half = record { bits-low = pow-pos t; bits-high = bits-high t high; times = 1; some = omega arith; is = half ∙ omega arith };
+        halved = record { bits-low = pow-pos t; bits-high = bits-high t high; times = 1; some = omega arith; is = half ∙ omega arith };
         fits = omega (arith, power-high t high);
       }
 
-  pub row-grid : {n : ℕ} → n ≡ points t → Grid n n 1 1 (2 ^ t) (2 * modulus t)
+  pub row-grid : {n : ℕ} → n ≡ transformLength t → Grid n n 1 1 (2 ^ t) (2 * modulus t)
   row-grid {n} e =
       let short : n ≤ 64 = rw e (pow-mono {i = t + 1} {j = 6} (omega arith)) in
       let most : 2 * modulus t * n ≤ 2 * modulus t * 64 = mul-le-mul-left (2 * modulus t) short in
-      let twice : points t ≡ 2 ^ t + 2 ^ t = rw add-one (two-pow-succ t) in
+      let twice : transformLength t ≡ 2 ^ t + 2 ^ t = rw add-one (two-pow-succ t) in
       grid (t + 1) e (omega arith) (omega arith) (omega (arith, twice)) (omega (arith, power-high t high))
 
-  pub row-passes : {n : ℕ} → n ≡ points t → passes n ≡ t + 1
+  pub row-passes : {n : ℕ} → n ≡ transformLength t → passes n ≡ t + 1
   row-passes e = passes-power e (omega arith)

@@ -6,7 +6,7 @@ use Prim.Native.Nat.{ℕ, _+_, _-_, _*_, _/_, _^_, _<_, _≤_}
 use lib.Count.{trailingZeros}
 use lib.ListN.{length, getD}
 use Rattle.algebra.specs.Places.{Run}
-use Rattle.passes.specs.Butterfly.{Relation, Made, Pairing}
+use Rattle.passes.specs.Butterfly.{Relation, StepMakes, Pairing}
 use Rattle.passes.specs.Halving as Lanes
 use Rattle.passes.specs.declared.butterfly.Step.{Step}
 use Rattle.passes.specs.declared.butterfly.Step.the-variants as Step
@@ -39,7 +39,7 @@ pub record EachBlock (blocks half : ℕ) (R : ℕ → Relation) (x y : ℕ → �
 
 -- what a stage makes of place i of each half
 abbrev pub StagePair : Step → (b c unit rows lanes : ℕ) → ℕ → Relation
-StagePair step b c unit rows lanes i = Pairing (Made step b c (unit * (i / lanes))) (Run 0 (rows * lanes) i)
+StagePair step b c unit rows lanes i = Pairing (StepMakes step b c (unit * (i / lanes))) (Run 0 (rows * lanes) i)
 
 -- a pass: a stage in each block. The halves are counted in words, of which row r has those from r * lanes on
 pub record Passed (step : Step) (b c unit rows lanes half : ℕ) (xs ys : List ℕ) : Type 0 where

@@ -6,7 +6,7 @@ use native.Mathlib.Omega.{arith}
 use lib.Pow.{pow-pos, pow-mono, pow-add, shl-exact, shl-lt, split}
 use Rattle.algebra.specs.Congruence.{Cong}
 use Rattle.algebra.specs.CongruenceLaws.{c-eq, c-refl, c-sym, _⨟_, c-via, c-add, c-mul, c-multiple}
-use Rattle.passes.specs.Butterfly.{Multiple, Bound, Turned, Parted, Joined}
+use Rattle.passes.specs.Butterfly.{Multiple, Bound, TimesPower, Parted, Joined}
 
 -- ---- multiples of the modulus
 
@@ -40,14 +40,14 @@ module _ {b c : ℕ} (multiple : Multiple b c) where
 pub bound-multiple : {b c : ℕ} → Bound b c → Multiple b c
 bound-multiple {b} {c} bound =
     let e : c / 2 * 2 ≡ c = omega (arith, bound .even) in
-    subst (λ (i : ℕ). Multiple b i) e (multiple-times (bound .half) 2 (omega arith))
+    subst (λ (i : ℕ). Multiple b i) e (multiple-times (bound .halved) 2 (omega arith))
 
 -- a multiple of a bound is a bound
 pub bound-times : {b c : ℕ} → Bound b c → (q : ℕ) → 0 < q → c * q < 9223372036854775808 → Bound b (c * q)
 bound-times {b} {c} bound q some fits =
     let whole : c * q ≡ 2 * (c / 2 * q) = ap (λ (i : ℕ). i * q) (bound .even) ∙ mul-assoc 2 (c / 2) q in
     let half : c / 2 * q ≡ c * q / 2 = omega arith in
-    record { even = omega arith; half = subst (λ (i : ℕ). Multiple b i) half (multiple-times (bound .half) q some); fits = fits }
+    record { even = omega arith; halved = subst (λ (i : ℕ). Multiple b i) half (multiple-times (bound .halved) q some); fits = fits }
 
 -- ---- shifts
 
@@ -70,8 +70,8 @@ module _ {b c : ℕ} (multiple : Multiple b c) (t d : ℕ) (lt : t < b) (small :
       div-le-of-le-mul (2 ^ (b - t)) {m = d} {n = c} (le-trans small (mul-le-mul-right c two))
 
   -- the low bits moved up, less the high ones: 2 ^ b is −1
-  pub turned-law : Turned b c d t (d % 2 ^ (b - t) * 2 ^ t + c - d / 2 ^ (b - t))
-  turned-law =
+  pub times-power-law : TimesPower b c d t (d % 2 ^ (b - t) * 2 ^ t + c - d / 2 ^ (b - t))
+  times-power-law =
       let q : ℕ = d / 2 ^ (b - t) in
       let r : ℕ = d % 2 ^ (b - t) in
       let z : ℕ = r * 2 ^ t + c - q in
@@ -95,30 +95,30 @@ module _ {b c : ℕ} (bound : Bound b c) (u v : ℕ) (lu : u ≤ c) (lv : v ≤ 
     high = omega arith;
   }
 
-  pub forward-law : (t z : ℕ) → Turned b c (u + c - v) t z → Parted (2 ^ b + 1) (2 * c) (2 ^ t) u v (u + v) z
-  forward-law t z turned =
+  pub forward-law : (t z : ℕ) → TimesPower b c (u + c - v) t z → Parted (2 ^ b + 1) (2 * c) (2 ^ t) u v (u + v) z
+  forward-law t z product =
       let s : ℕ = 2 ^ t in
       let e : u + c - v + v ≡ u + c = omega arith in
       let back : (u + c - v) * s + v * s ≡ u * s + c * s = sym (add-mul (u + c - v) v s) ∙ ap (λ (i : ℕ). i * s) e ∙ add-mul u c s in
       record {
         plus = c-refl;
-        minus = c-add (turned .value) (c-refl {a = v * s}) ⨟ c-eq back
+        minus = c-add (product .value) (c-refl {a = v * s}) ⨟ c-eq back
             ⨟ c-via refl (c-add (c-refl {a = u * s}) (c-mul (multiple-none (bound-multiple bound)) (c-refl {a = s}))) (omega arith);
         low = omega arith;
-        high = omega (arith, turned .bound, multiple-above (bound-multiple bound));
+        high = omega (arith, product .bound, multiple-above (bound-multiple bound));
       }
 
   -- w is the second word turned by s
-  pub inverse-fits : (s w : ℕ) → Turned b (c / 2) v s w → w ≤ c
-  inverse-fits s w turned = omega (arith, turned .bound, multiple-above (bound .half), bound .even)
+  pub inverse-fits : (s w : ℕ) → TimesPower b (c / 2) v s w → w ≤ c
+  inverse-fits s w product = omega (arith, product .bound, multiple-above (bound .halved), bound .even)
 
-  pub inverse-law : (s w : ℕ) → Turned b (c / 2) v s w → Joined (2 ^ b + 1) (2 * c) (2 ^ s) u v (u + c - w) (u + w)
-  inverse-law s w turned =
-      let small : w ≤ c = inverse-fits s w turned in
+  pub inverse-law : (s w : ℕ) → TimesPower b (c / 2) v s w → Joined (2 ^ b + 1) (2 * c) (2 ^ s) u v (u + c - w) (u + w)
+  inverse-law s w product =
+      let small : w ≤ c = inverse-fits s w product in
       record {
-        minus = c-add (c-refl {a = u + c - w}) (c-sym (turned .value))
+        minus = c-add (c-refl {a = u + c - w}) (c-sym (product .value))
             ⨟ c-via {a' = u + c} (omega arith) (c-add (c-refl {a = u}) (multiple-none (bound-multiple bound))) (omega arith);
-        plus = c-add (c-refl {a = u}) (turned .value);
+        plus = c-add (c-refl {a = u}) (product .value);
         low = omega arith;
         high = omega arith;
       }

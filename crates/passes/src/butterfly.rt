@@ -4,7 +4,7 @@ ghost use mathlib.Core.Path.{_≡_};
 ghost use Prim.Native.Nat.{_+_, _*_, _<_, _≤_};
 ghost use lib.ListN.{length};
 ghost use Rattle.algebra.specs.Places.{Run};
-ghost use Rattle.passes.specs.Butterfly.{Multiple, Bound, Turned, Made, Ready, Paired, PairsAtMost, AtMost, Staged, Sized};
+ghost use Rattle.passes.specs.Butterfly.{Multiple, Bound, TimesPower, StepMakes, TakesPower, Paired, PairsAtMost, AtMost, Staged, StageSizes};
 
 // What a butterfly makes of two words u and v, with a power p of 2:
 // Plain u + v and u - v, Forward u + v and (u - v) p, Inverse u + v / p and u - v / p.
@@ -21,10 +21,10 @@ pub struct Pair {
 
 // d times 2^t: the bits from `bits` on come back below with the sign turned, and `margin`, a multiple of the modulus, keeps the
 // result from going below 0.
-fn turned(d: u64, t: u32, bits: u32, margin: u64) -> u64
+fn times_power(d: u64, t: u32, bits: u32, margin: u64) -> u64
     requires { ⌜ Multiple bits margin ⌝ }
     requires { ⌜ (t < bits) × (d ≤ 2 * margin) × (margin < 9223372036854775808) ⌝ }
-    ensures { λ r. ⌜ Turned bits margin d t r ⌝ }
+    ensures { λ r. ⌜ TimesPower bits margin d t r ⌝ }
 {
     let s = bits - t;
     let p = 1u64 << s;
@@ -33,8 +33,8 @@ fn turned(d: u64, t: u32, bits: u32, margin: u64) -> u64
 
 fn butterfly(step: Step, u: u64, v: u64, t: u32, bits: u32, bound: u64) -> Pair
     requires { ⌜ Bound bits bound ⌝ }
-    requires { ⌜ Ready step bits t × (u ≤ bound) × (v ≤ bound) ⌝ }
-    ensures { λ r. ⌜ Made step bits bound t u v (r .low) (r .high) ⌝ }
+    requires { ⌜ TakesPower step bits t × (u ≤ bound) × (v ≤ bound) ⌝ }
+    ensures { λ r. ⌜ StepMakes step bits bound t u v (r .low) (r .high) ⌝ }
 {
     match step {
         Step::Plain => Pair {
@@ -43,10 +43,10 @@ fn butterfly(step: Step, u: u64, v: u64, t: u32, bits: u32, bound: u64) -> Pair
         },
         Step::Forward => Pair {
             low: u + v,
-            high: turned(u + bound - v, t, bits, bound),
+            high: times_power(u + bound - v, t, bits, bound),
         },
         Step::Inverse => {
-            let w = turned(v, bits - t, bits, bound / 2);
+            let w = times_power(v, bits - t, bits, bound / 2);
             Pair {
                 low: u + bound - w,
                 high: u + w,
@@ -67,9 +67,9 @@ fn butterflies(
     bound: u64,
 )
     requires { ⌜ Bound bits bound ⌝ }
-    requires { ⌜ (length (now words) ≡ 2 * half) × (at + lanes ≤ half) × Ready step bits t ⌝ }
+    requires { ⌜ (length (now words) ≡ 2 * half) × (at + lanes ≤ half) × TakesPower step bits t ⌝ }
     requires { ⌜ PairsAtMost bound (Run at lanes) half (now words) ⌝ }
-    ensures { λ _. ⌜ Paired (λ _. Made step bits bound t) (Run at lanes) half (now (words .entry)) (now (words .exit)) ⌝ }
+    ensures { λ _. ⌜ Paired (λ _. StepMakes step bits bound t) (Run at lanes) half (now (words .entry)) (now (words .exit)) ⌝ }
 {
     let mut k = 0;
     while k < lanes {
@@ -94,7 +94,7 @@ pub(crate) fn stage(
     bound: u64,
 )
     requires { ⌜ Bound bits bound ⌝ }
-    requires { ⌜ Sized (length (now words)) rows lanes half unit bits ⌝ }
+    requires { ⌜ StageSizes (length (now words)) rows lanes half unit bits ⌝ }
     requires { ⌜ AtMost bound (now words) ⌝ }
     ensures { λ _. ⌜ Staged step bits bound unit rows lanes half (now (words .entry)) (now (words .exit)) ⌝ }
 {

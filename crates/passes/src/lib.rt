@@ -5,7 +5,7 @@
 ghost use mathlib.Core.Path.{_≡_};
 ghost use Prim.Native.Nat.{_+_, _-_, _*_, _^_, _<_};
 ghost use lib.ListN.{length};
-ghost use Rattle.passes.specs.Butterfly.{Bound, AtMost, Sized};
+ghost use Rattle.passes.specs.Butterfly.{Bound, AtMost, StageSizes};
 ghost use Rattle.passes.specs.Halving.{Forward, Inverse, Filled};
 ghost use Rattle.passes.specs.Passes.{passes, stepOf, levelOf, WholeBlocks, Passed, Grid, Pruned, Transformed};
 use base::number::lesser;
@@ -62,7 +62,7 @@ fn pass(
     bound: u64,
 )
     requires { ⌜ Bound bits bound ⌝ }
-    requires { ⌜ WholeBlocks (length (now words)) half × Sized (2 * half) rows lanes half unit bits ⌝ }
+    requires { ⌜ WholeBlocks (length (now words)) half × StageSizes (2 * half) rows lanes half unit bits ⌝ }
     requires { ⌜ AtMost bound (now words) ⌝ }
     ensures { λ _. ⌜ Passed step bits bound unit rows lanes half (now (words .entry)) (now (words .exit)) ⌝ }
 {

@@ -15,13 +15,13 @@ fn swap(words: &mut [u64], p: usize, q: usize)
 }
 
 // The index k with its bits in reverse order.
-fn reverse(k: usize, levels: u32) -> usize
-    requires { ⌜ (k < 2 ^ levels) × (levels ≤ 6) ⌝ }
-    ensures { λ r. ⌜ r ≡ reversed levels k ⌝ }
+fn reverse(k: usize, halvings: u32) -> usize
+    requires { ⌜ (k < 2 ^ halvings) × (halvings ≤ 6) ⌝ }
+    ensures { λ r. ⌜ r ≡ reversed halvings k ⌝ }
 {
     let mut r = 0;
     let mut q = k;
-    let mut t = levels;
+    let mut t = halvings;
     while 0 < t {
         r = 2 * r + q % 2;
         q = q / 2;
@@ -31,13 +31,13 @@ fn reverse(k: usize, levels: u32) -> usize
 }
 
 // Each word goes to the place whose index has its bits in reverse order.
-pub fn reorder(words: &mut [u64], levels: u32)
-    requires { ⌜ (length (now words) ≡ 2 ^ levels) × (levels ≤ 6) ⌝ }
-    ensures { λ _. ⌜ Permuted (reversed levels) (now (words .entry)) (now (words .exit)) ⌝ }
+pub fn reorder(words: &mut [u64], halvings: u32)
+    requires { ⌜ (length (now words) ≡ 2 ^ halvings) × (halvings ≤ 6) ⌝ }
+    ensures { λ _. ⌜ Permuted (reversed halvings) (now (words .entry)) (now (words .exit)) ⌝ }
 {
     let mut k = 0;
     while k < words.len() {
-        let p = reverse(k, levels);
+        let p = reverse(k, halvings);
         if k < p {
             swap(words, k, p);
         }

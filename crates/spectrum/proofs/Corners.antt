@@ -41,7 +41,7 @@ outside k at xs a b le = rw (le-ltb b k le) (go (ltb a k))
 pub record Wide (n k s : ℕ) (xs ys ts : List ℕ) : Type 0 where
   pub kept : length ys ≡ length (midOf (n * n) s xs)
   pub whole : length ts ≡ length xs
-  pub turned : Widened n k (putMid (n * n) s xs ys) ts
+  pub widened : Widened n k (putMid (n * n) s xs ys) ts
 
 -- the first transform: its part is the s words from n * n on
 module _ {n k c s : ℕ} {xs : List ℕ} (cornered : Cornered n k c xs) (part : s ≡ n * k) where
@@ -80,11 +80,11 @@ module _ {n k c s : ℕ} {xs : List ℕ} (cornered : Cornered n k c xs) (part : 
 
     wide-word : (r j : ℕ) → r < k → j < n → word n r j (take (n * n) ts) ≡ word k j r ys
     wide-word r j lr lj =
-        getD-take (n * n) ts (r * n + j) 0 (place-lt r j (omega (arith, cornered .inside)) lj) ∙ wide .turned .turned r j lr lj
+        getD-take (n * n) ts (r * n + j) 0 (place-lt r j (omega (arith, cornered .inside)) lj) ∙ wide .widened .transposed r j lr lj
         ∙ returned (j * k + r) (let here : j * k + r < n * k = digits-lt lj lr in omega arith)
 
     wide-empty : (i : ℕ) → k * n ≤ i → i < n * n → getD (take (n * n) ts) i 0 ≡ 0
-    wide-empty i lo hi = getD-take (n * n) ts i 0 hi ∙ wide .turned .empty i lo hi
+    wide-empty i lo hi = getD-take (n * n) ts i 0 hi ∙ wide .widened .empty i lo hi
 
     pub wide-length : length (take (n * n) ts) ≡ n * n
     wide-length = length-take-le (n * n) ts (omega (arith, wide .whole, cornered .whole))

@@ -2,6 +2,6 @@ mod Tiles
 mod Widening
 mod Corners
 mod Products
-mod Finish
+mod OffsetResidues
 mod Recovery
 mod Sizes

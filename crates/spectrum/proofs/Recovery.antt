@@ -8,7 +8,7 @@ use native.Mathlib.Omega.{arith}
 use lib.ListN.{length, getD}
 use Rattle.algebra.specs.Congruence.{Cong}
 use Rattle.algebra.specs.CongruenceLaws.{c-eq, c-refl, _⨟_, c-add, c-mul}
-use Rattle.fermat.specs.Field.{modulus, points}
+use Rattle.fermat.specs.Field.{modulus, transformLength}
 use Rattle.fermat.specs.Transform.{powerSum2}
 use Rattle.fermat.specs.RootLaws.{Root}
 use Rattle.fermat.specs.FieldLaws.{field-root}
@@ -19,7 +19,7 @@ use Rattle.passes.specs.Butterfly.{Bound, AtMost}
 use Rattle.passes.specs.Halving.{word}
 use Rattle.passes.specs.OrderLaws.{place-lt}
 use Rattle.spectrum.specs.Tile.{TileForward, TileInverse, Square, Spectrum, Recovered}
-use Rattle.spectrum.specs.Product.{settledMost, Settled, inverseMost, finishedOf}
+use Rattle.spectrum.specs.Product.{settledMost, Settled, inverseMost, offsetResidue}
 use Rattle.spectrum.specs.SpectrumLaws.{spectrum-moved}
 use Rattle.spectrum.proofs.Sizes.{tile-bound, tile-square}
 
@@ -40,28 +40,28 @@ tile-undone {m} {w} {v} {s} {t} {l} {n} {z} {xs} ys root e forward inverse r j l
 
 -- the numbers of the field t: the side of a tile, its levels, the bits and the modulus
 pub record Numbers (t n l b m : ℕ) : Type 0 where
-  pub side : n ≡ points t
-  pub levels : l ≡ t + 1
+  pub side : n ≡ transformLength t
+  pub halvings : l ≡ t + 1
   pub bits : b ≡ 2 ^ t
   pub field : m ≡ modulus t
 
 module _ {t n l b m : ℕ} (is : Numbers t n l b m) where
   -- what the inverse asks of words that are brought down
-  pub inverse-asks : (xs : List ℕ) → t ≤ 5 → length xs ≡ points t * points t → AtMost (settledMost t) xs
+  pub inverse-asks : (xs : List ℕ) → t ≤ 5 → length xs ≡ transformLength t * transformLength t → AtMost (settledMost t) xs
       → Bound b (4 * m) × (Square (length xs) n l b (4 * m) × AtMost (4 * m) xs)
-  inverse-asks xs high size most = rw (is .side, is .levels, is .bits, is .field) (tile-bound t high, (tile-square t high size (omega arith), most))
+  inverse-asks xs high size most = rw (is .side, is .halvings, is .bits, is .field) (tile-bound t high, (tile-square t high size (omega arith), most))
 
   -- what `finish` asks
   pub inverse-most : (ys : List ℕ) → AtMost (4 * m * 2 ^ l * 2 ^ l) ys → AtMost (inverseMost t) ys
-  inverse-most ys most = rw (is .levels, is .field) at most
+  inverse-most ys most = rw (is .halvings, is .field) at most
 
   -- words brought down, then inverted, then finished
-  pub recovered : (xs ss ys zs : List ℕ) → length xs ≡ points t * points t → length ys ≡ length xs
+  pub recovered : (xs ss ys zs : List ℕ) → length xs ≡ transformLength t * transformLength t → length ys ≡ length xs
       → ((i : ℕ) → i < length xs → Settled t (getD xs i 0) (getD ss i 0)) → TileInverse (2 ^ b + 1) (2 ^ (b - 1) + 1) l n ss ys
-      → ((i : ℕ) → i < length ys → getD zs i 0 ≡ finishedOf t (getD ys i 0)) → Recovered t xs zs
+      → ((i : ℕ) → i < length ys → getD zs i 0 ≡ offsetResidue t (getD ys i 0)) → Recovered t xs zs
   recovered xs ss ys zs size same settled inverse finished z forward r j lr lj =
-      finished (r * points t + j) (omega (arith, place-lt r j lr lj))
-      ∙ c-add (tile-undone ys (field-root t) (add-one t) down (rw (is .side, is .levels, is .bits) at inverse) r j lr lj) c-refl .same
+      finished (r * transformLength t + j) (omega (arith, place-lt r j lr lj))
+      ∙ c-add (tile-undone ys (field-root t) (add-one t) down (rw (is .side, is .halvings, is .bits) at inverse) r j lr lj) c-refl .same
     where
       down : Spectrum t z 0 ss
       down = spectrum-moved refl forward (λ i l. rw (zero-add i) (settled i (omega arith) .value))

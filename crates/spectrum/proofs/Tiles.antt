@@ -37,11 +37,11 @@ second-transform m w l n x ts zs side rows columns = record {
       (power-sum-swap (2 ^ l) w w x k i);
 }
 
-module _ (m w l n : ℕ) (xs ys ts zs : List ℕ) (side : n ≡ 2 ^ l) (size : length ys ≡ n * n) (turned : Permuted (across n) ys ts) where
+module _ (m w l n : ℕ) (xs ys ts zs : List ℕ) (side : n ≡ 2 ^ l) (size : length ys ≡ n * n) (swapped : Permuted (across n) ys ts) where
   tile-forward : Lanes.Forward m w l n xs ys → Lanes.Forward m w l n ts zs → TileForward m w l n (λ r j. word n r j xs) 0 zs
   tile-forward columns rows =
       second-transform m w l n (λ r j. word n r j xs) ts zs side rows
-      (λ k j lk lj. c-eq (transposed ys ts turned size j (reversed l k) lj (omega (arith, reversed-lt l k lk))) ⨟ columns k j lk lj)
+      (λ k j lk lj. c-eq (transposed ys ts swapped size j (reversed l k) lj (omega (arith, reversed-lt l k lk))) ⨟ columns k j lk lj)
 
   tile-inverse : Lanes.Inverse m w l n xs ys → Lanes.Inverse m w l n ts zs → TileInverse m w l n xs zs
   unfolding powerSum2
@@ -50,19 +50,19 @@ module _ (m w l n : ℕ) (xs ys ts zs : List ℕ) (side : n ≡ 2 ^ l) (size : l
       rows r j lr column
       ⨟ c-power-sum (2 ^ l) w (λ k. word n (reversed l k) j ts) (λ k. powerSum (2 ^ l) w (λ i. word n (reversed l i) (reversed l k) xs) j) r
       (λ k lk. let row : reversed l k < n = omega (arith, reversed-lt l k lk) in
-      c-eq (transposed ys ts turned size (reversed l k) j row column) ⨟ columns j (reversed l k) lj row)
+      c-eq (transposed ys ts swapped size (reversed l k) j row column) ⨟ columns j (reversed l k) lj row)
 
 -- in either direction
 pub tile-transformed : (direction : Direction) (b l n : ℕ) (xs ys ts zs : List ℕ) → n ≡ 2 ^ l → length ys ≡ n * n → Permuted (across n) ys ts
     → Transformed direction b 1 l n xs ys → Transformed direction b 1 l n ts zs → TileTransformed direction b l n xs zs
-tile-transformed Forward b l n xs ys ts zs side size turned columns rows = tile-forward (2 ^ b + 1) 2 l n xs ys ts zs side size turned columns rows
-tile-transformed Inverse b l n xs ys ts zs side size turned columns rows =
+tile-transformed Forward b l n xs ys ts zs side size swapped columns rows = tile-forward (2 ^ b + 1) 2 l n xs ys ts zs side size swapped columns rows
+tile-transformed Inverse b l n xs ys ts zs side size swapped columns rows =
     let one = pow-one (2 ^ (b - 1) + 1) in
-    tile-inverse (2 ^ b + 1) (2 ^ (b - 1) + 1) l n xs ys ts zs side size turned (rw one at columns) (rw one at rows)
+    tile-inverse (2 ^ b + 1) (2 ^ (b - 1) + 1) l n xs ys ts zs side size swapped (rw one at columns) (rw one at rows)
 
 -- the bound across a transposition
 pub transposed-most : (n c : ℕ) (ys ts : List ℕ) → length ys ≡ n * n → length ts ≡ length ys → Permuted (across n) ys ts → AtMost c ys → AtMost c ts
-transposed-most n c ys ts size same turned most = permuted-most (across n) ys ts c size (same ∙ size) (across-lt n) turned most
+transposed-most n c ys ts size same swapped most = permuted-most (across n) ys ts c size (same ∙ size) (across-lt n) swapped most
 
 -- no row is left out
 pub none-pruned : (direction : Direction) (n : ℕ) (xs : List ℕ) → 0 < n → length xs ≡ n * n → Pruned direction n n n xs
@@ -85,9 +85,9 @@ transforms {s} {n} {l} {b} {c} bound square =
     let period : 1 * n ≡ 2 * b = one-mul n ∙ square .period in
     record {
       some = omega (arith, square .side, pow-pos l);
-      count = passes-power (square .side) (omega (arith, square .levels));
-      first = grid l (square .side) (square .levels) (square .whole) period (rw (square .side) fits);
+      count = passes-power (square .side) (omega (arith, square .halvings));
+      first = grid l (square .side) (square .halvings) (square .whole) period (rw (square .side) fits);
       shl = mod-eq-of-lt (omega arith);
       bound = bound-times bound (2 ^ l) (pow-pos l) fits;
-      second = grid l (square .side) (square .levels) (square .whole) period (rw (square .side) (square .room));
+      second = grid l (square .side) (square .halvings) (square .whole) period (rw (square .side) (square .room));
     }

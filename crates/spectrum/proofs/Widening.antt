@@ -11,7 +11,7 @@ use lib.ListN.{length, getD, set}
 use Rattle.algebra.specs.Places.{Written, Run}
 use Rattle.algebra.specs.PlacesLaws.{written-as, written-again, written-longer}
 use Rattle.passes.specs.OrderLaws.{place-lt, place-row, place-column}
-use Rattle.spectrum.specs.Corner.{turnedWord, Widened}
+use Rattle.spectrum.specs.Corner.{transposedWord, Widened}
 
 -- n rows of k words are no more than a tile: row c ends inside it
 pub narrow-le : {n k : ℕ} (c : ℕ) → k ≤ n → c < n → c * k + k ≤ n * n
@@ -21,21 +21,21 @@ narrow-le {n} {k} c le lc =
     omega arith
 
 -- row r, column c of the first half takes row c, column r of the narrow rows
-turned-word : {n : ℕ} (k : ℕ) (xs : List ℕ) (r c : ℕ) → c < n → turnedWord n k xs (r * n + c) ≡ getD xs (n * n + (c * k + r)) 0
-turned-word k xs r c l = rw (place-row r c l, place-column r c l)
+transposed-word : {n : ℕ} (k : ℕ) (xs : List ℕ) (r c : ℕ) → c < n → transposedWord n k xs (r * n + c) ≡ getD xs (n * n + (c * k + r)) 0
+transposed-word k xs r c l = rw (place-row r c l, place-column r c l)
 
 -- one more word of a row
 pub widen-step : (n k r c : ℕ) {from : ℕ} {xs ys : List ℕ} → length xs ≡ 2 * (n * n) → r < n → c < n → from ≡ n * n + (c * k + r)
-    → Written 0 (Run (r * n) c) (turnedWord n k xs) xs ys
-    → Written 0 (Run (r * n) (c + 1)) (turnedWord n k xs) xs (set ys (r * n + c) (getD ys from 0))
+    → Written 0 (Run (r * n) c) (transposedWord n k xs) xs ys
+    → Written 0 (Run (r * n) (c + 1)) (transposedWord n k xs) xs (set ys (r * n + c) (getD ys from 0))
 widen-step n k r c {from} {xs} {ys} size lr lc is w =
     let here = place-lt r c lr lc in
     written-longer (r * n) c (getD ys from 0) (omega (arith, here)) w
-    (w .kept from (λ h. omega (arith, here)) ∙ ap (λ (p : ℕ). getD xs p 0) is ∙ sym (turned-word k xs r c lc))
+    (w .kept from (λ h. omega (arith, here)) ∙ ap (λ (p : ℕ). getD xs p 0) is ∙ sym (transposed-word k xs r c lc))
 
 -- one more row
-pub widen-next : (n k r : ℕ) {xs ys zs : List ℕ} → r ≤ n → Written 0 (Run 0 (r * n)) (turnedWord n k xs) xs ys
-    → Written 0 (Run (r * n) n) (turnedWord n k ys) ys zs → Written 0 (Run 0 ((r + 1) * n)) (turnedWord n k xs) xs zs
+pub widen-next : (n k r : ℕ) {xs ys zs : List ℕ} → r ≤ n → Written 0 (Run 0 (r * n)) (transposedWord n k xs) xs ys
+    → Written 0 (Run (r * n) n) (transposedWord n k ys) ys zs → Written 0 (Run 0 ((r + 1) * n)) (transposedWord n k xs) xs zs
 widen-next n k r {xs} {ys} {zs} le rows row =
     written-again rows (written-as row (λ p l h. h) (λ p h. h) (λ p l h. rows .kept (place p) (λ q. apart (p % n * k + p / n) (q .1))))
     (λ p l h. go p h (decLt p (r * n))) (λ p h. (h .0, omega (arith, next))) (λ p h. (omega arith, omega (arith, next)))
@@ -54,14 +54,14 @@ widen-next n k r {xs} {ys} {zs} le rows row =
     go p h (no l) = inr (omega arith, omega (arith, next))
 
 -- all rows, and 0 after them
-pub widened : (n k : ℕ) {xs ys zs : List ℕ} → k ≤ n → length xs ≡ 2 * (n * n) → Written 0 (Run 0 (k * n)) (turnedWord n k xs) xs ys
+pub widened : (n k : ℕ) {xs ys zs : List ℕ} → k ≤ n → length xs ≡ 2 * (n * n) → Written 0 (Run 0 (k * n)) (transposedWord n k xs) xs ys
     → Written 0 (Run (k * n) (n * n - k * n)) (λ _. 0) ys zs → Widened n k xs zs
 widened n k {xs} {ys} {zs} le size rows cleared = record {
-  turned = λ r c lr lc.
+  transposed = λ r c lr lc.
       let here : r * n + c < k * n = digits-lt lr lc in
       cleared .kept (r * n + c) (λ h. omega arith) ∙ rows .here (r * n + c) (omega (arith, inside)) (omega arith, omega arith)
-      ∙ turned-word k xs r c lc;
-  empty = λ i lo hi. cleared .here i (omega (arith, rows .size)) (lo, omega (arith, inside));
+      ∙ transposed-word k xs r c lc;
+  empty = λ i lo hi. cleared .here i (omega (arith, rows .same-length)) (lo, omega (arith, inside));
 }
   where
     inside : k * n ≤ n * n

@@ -20,10 +20,10 @@ pub record Cornered (n k c : ℕ) (xs : List ℕ) : Type 0 where
   pub empty : (i : ℕ) → k * k ≤ i → i < n * k → getD xs (n * n + i) 0 ≡ 0
 
 -- what place p of k rows of n words takes from the n rows of k words that xs has in its second half: rows and columns change places
-abbrev pub turnedWord : (n k : ℕ) → List ℕ → (p : ℕ) → ℕ
-turnedWord n k xs p = getD xs (n * n + (p % n * k + p / n)) 0
+abbrev pub transposedWord : (n k : ℕ) → List ℕ → (p : ℕ) → ℕ
+transposedWord n k xs p = getD xs (n * n + (p % n * k + p / n)) 0
 
 -- the first k rows of ys are the columns of the n rows of k words that xs has in its second half; the other rows of the first half are 0
 pub record Widened (n k : ℕ) (xs ys : List ℕ) : Type 0 where
-  pub turned : (r c : ℕ) → r < k → c < n → getD ys (r * n + c) 0 ≡ getD xs (n * n + (c * k + r)) 0
+  pub transposed : (r c : ℕ) → r < k → c < n → getD ys (r * n + c) 0 ≡ getD xs (n * n + (c * k + r)) 0
   pub empty : (i : ℕ) → k * n ≤ i → i < n * n → getD ys i 0 ≡ 0

@@ -7,11 +7,11 @@ use Prim.Native.Nat.{ℕ, _+_, _-_, _*_, _/_, _%_, _^_, _<_, _≤_}
 use lib.Dec.{eqb}
 use lib.ListN.{getD}
 use Rattle.algebra.specs.Congruence.{Cong}
-use Rattle.fermat.specs.Field.{modulus, points, scale}
+use Rattle.fermat.specs.Field.{modulus, transformLength, scale}
 
 -- a word of a transformed tile is at most this: loaded words are at most twice the modulus, and both transforms multiply that by N
 abbrev pub factorMost : ℕ → ℕ
-factorMost t = 2 * modulus t * points t * points t
+factorMost t = 2 * modulus t * transformLength t * transformLength t
 
 -- a product of two such words is at most this
 abbrev pub productMost : ℕ → ℕ
@@ -33,23 +33,23 @@ pub record Settled (t v r : ℕ) : Type 0 where
 
 -- what it leaves
 abbrev pub inverseMost : ℕ → ℕ
-inverseMost t = settledMost t * points t * points t
+inverseMost t = settledMost t * transformLength t * transformLength t
 
 -- v can be finished: at most 4 (2 ^ b + 1) 2 ^ r, where 2 ^ r is N²
-pub record Finishing (b r v : ℕ) : Type 0 where
+pub record Reducible (b r v : ℕ) : Type 0 where
   pub bits-low : 4 ≤ b
   pub bits-high : b ≤ 32
   pub rest : r ≤ b
   pub bound : v ≤ 4 * (2 ^ b + 1) * 2 ^ r
 
 -- z is −v 2 ^ (b − r) and half of 2 ^ b, a residue
-pub record Finished (b r v z : ℕ) : Type 0 where
+pub record OffsetResidue (b r v z : ℕ) : Type 0 where
   pub below : z < 2 ^ b + 1
   pub value : Cong (2 ^ b + 1) (z + v * 2 ^ (b - r)) (2 ^ b / 2)
 
 -- v / N² and half of 2 ^ (2 ^ t), as a residue
-abbrev pub finishedOf : ℕ → ℕ → ℕ
-finishedOf t v = (scale t * scale t * v + 2 ^ (2 ^ t) / 2) % modulus t
+abbrev pub offsetResidue : ℕ → ℕ → ℕ
+offsetResidue t v = (scale t * scale t * v + 2 ^ (2 ^ t) / 2) % modulus t
 
 -- the first `count` words become sums: each the word itself and the product of the words `count` and twice `count` further on
 pub record Accumulated (t count : ℕ) (xs ys : List ℕ) : Type 0 where

@@ -11,7 +11,7 @@ use borrow.Rule.Slice.PartMut.{putMid}
 use Rattle.algebra.specs.Congruence.{Cong}
 use Rattle.algebra.specs.CongruenceLaws.{c-eq, c-sym, _⨟_, c-add, c-mul}
 use Rattle.algebra.specs.PlacesLaws.{getD-put-mid}
-use Rattle.fermat.specs.Field.{modulus, points}
+use Rattle.fermat.specs.Field.{modulus, transformLength}
 use Rattle.fermat.specs.Transform.{circular2}
 use Rattle.fermat.specs.RootLaws.{root-period}
 use Rattle.fermat.specs.FieldLaws.{field-root}
@@ -71,15 +71,15 @@ module _ {m w l n : ℕ} {x : ℕ → ℕ → ℕ} where
   }
 
 -- 2 to the power of the length is 1
-pub field-period : (t : ℕ) → Cong (modulus t) (2 ^ points t) 1
-field-period t = rw (add-one t) (root-period t 2 (field-root t .half))
+pub field-period : (t : ℕ) → Cong (modulus t) (2 ^ transformLength t) 1
+field-period t = rw (add-one t) (root-period t 2 (field-root t .half-period))
 
 -- what `accumulate` does: the sum stands first, then the two factors
-pub spectrum-accumulated : {t count : ℕ} {x y z : ℕ → ℕ → ℕ} {xs ys : List ℕ} → count ≡ points t * points t → Accumulated t count xs ys
+pub spectrum-accumulated : {t count : ℕ} {x y z : ℕ → ℕ → ℕ} {xs ys : List ℕ} → count ≡ transformLength t * transformLength t → Accumulated t count xs ys
     → Spectrum t z 0 xs → Spectrum t x count xs → Spectrum t y (count + count) xs
-    → Spectrum t (λ r j. z r j + circular2 (points t) x y r j) 0 ys
+    → Spectrum t (λ r j. z r j + circular2 (transformLength t) x y r j) 0 ys
 spectrum-accumulated {t} {count} {xs = xs} {ys} size added fz fx fy = spectrum-sum refl (field-period t) fz fx fy here
   where
-    here : (i : ℕ) → i < points t * points t
+    here : (i : ℕ) → i < transformLength t * transformLength t
         → Cong (modulus t) (getD ys (0 + i) 0) (getD xs (0 + i) 0 + getD xs (count + i) 0 * getD xs (count + count + i) 0)
     here i h = rw (zero-add i, add-assoc count count i) (added .sum i (omega arith))

@@ -4,7 +4,7 @@ use mathlib.Core.List.{List}
 use Prim.Native.Nat.{ℕ, _+_, _-_, _*_, _/_, _%_, _^_, _<_, _≤_}
 use lib.ListN.{getD}
 use Rattle.algebra.specs.Congruence.{Cong}
-use Rattle.fermat.specs.Field.{modulus, points}
+use Rattle.fermat.specs.Field.{modulus, transformLength}
 use Rattle.fermat.specs.Transform.{powerSum2}
 use Rattle.passes.specs.Order.{reversed}
 use Rattle.passes.specs.Halving.{word}
@@ -19,7 +19,7 @@ pub record TileForward (m w l n : ℕ) (x : ℕ → ℕ → ℕ) (at : ℕ) (ys 
 
 -- the same in the field of exponent t, at its root 2
 abbrev pub Spectrum : ℕ → (ℕ → ℕ → ℕ) → ℕ → List ℕ → Type 0
-Spectrum t = TileForward (modulus t) 2 (t + 1) (points t)
+Spectrum t = TileForward (modulus t) 2 (t + 1) (transformLength t)
 
 -- from that order back to rows and columns in their own
 abbrev pub TileInverse : (m v l n : ℕ) → List ℕ → List ℕ → Type 0
@@ -35,13 +35,13 @@ TileTransformed Inverse b l n xs ys = TileInverse (2 ^ b + 1) (2 ^ (b - 1) + 1) 
 -- xs holds the transform of a tile z; then ys holds the words of z as residues, with half of 2 ^ (2 ^ t) added
 abbrev pub Recovered : ℕ → List ℕ → List ℕ → Type 0
 Recovered t xs ys =
-    (z : ℕ → ℕ → ℕ) → Spectrum t z 0 xs → (r j : ℕ) → r < points t → j < points t
-    → word (points t) r j ys ≡ (z r j + 2 ^ (2 ^ t) / 2) % modulus t
+    (z : ℕ → ℕ → ℕ) → Spectrum t z 0 xs → (r j : ℕ) → r < transformLength t → j < transformLength t
+    → word (transformLength t) r j ys ≡ (z r j + 2 ^ (2 ^ t) / 2) % modulus t
 
 -- the sizes of a tile of s words: its side is the length of the transform at 2, and there is room for both transforms
 pub record Square (s n l b c : ℕ) : Type 0 where
   pub whole : s ≡ n * n
   pub side : n ≡ 2 ^ l
-  pub levels : l ≤ 6
+  pub halvings : l ≤ 6
   pub period : n ≡ 2 * b
   pub room : c * 2 ^ l * 2 ^ l < 9223372036854775808

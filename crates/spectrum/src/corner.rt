@@ -6,14 +6,14 @@ ghost use lib.ListN.{length, getD};
 ghost use Rattle.algebra.specs.Places.{Written, Run};
 ghost use Rattle.passes.specs.Butterfly.{Bound};
 ghost use Rattle.spectrum.specs.Tile.{TileForward, Square};
-ghost use Rattle.spectrum.specs.Corner.{corner, Cornered, turnedWord, Widened};
+ghost use Rattle.spectrum.specs.Corner.{corner, Cornered, transposedWord, Widened};
 use base::words::clear;
 use passes::forward;
 
 // Row r of the first half becomes column r of the n rows of k words in the second half.
 fn widen_row(words: &mut [u64], n: usize, k: usize, r: usize)
     requires { ⌜ (length (now words) ≡ 2 * (n * n)) × (k ≤ n) × (r < k) ⌝ }
-    ensures { λ _. ⌜ Written 0 (Run (r * n) n) (turnedWord n k (now (words .entry))) (now (words .entry)) (now (words .exit)) ⌝ }
+    ensures { λ _. ⌜ Written 0 (Run (r * n) n) (transposedWord n k (now (words .entry))) (now (words .entry)) (now (words .exit)) ⌝ }
 {
     let first = r * n;
     let mut from = n * n + r;
@@ -43,18 +43,18 @@ pub(crate) fn forward_corner(
     words: &mut [u64],
     n: usize,
     k: usize,
-    levels: u32,
+    halvings: u32,
     bits: u32,
     bound: u64,
 )
     requires { ⌜ Bound bits bound ⌝ }
-    requires { ⌜ Square (n * n) n levels bits bound ⌝ }
+    requires { ⌜ Square (n * n) n halvings bits bound ⌝ }
     requires { ⌜ Cornered n k bound (now words) ⌝ }
-    ensures { λ _. ⌜ TileForward (2 ^ bits + 1) 2 levels n (corner k (n * n) (now (words .entry))) 0 (now (words .exit)) ⌝ }
-    ensures { λ _. ⌜ ((i : ℕ) → i < n * n → getD (now (words .exit)) i 0 ≤ bound * 2 ^ levels * 2 ^ levels) ⌝ }
+    ensures { λ _. ⌜ TileForward (2 ^ bits + 1) 2 halvings n (corner k (n * n) (now (words .entry))) 0 (now (words .exit)) ⌝ }
+    ensures { λ _. ⌜ ((i : ℕ) → i < n * n → getD (now (words .exit)) i 0 ≤ bound * 2 ^ halvings * 2 ^ halvings) ⌝ }
 {
     let area = n * n;
     forward(&mut words[area..area + n * k], n, k, k, 1, bits, bound);
     widen(words, n, k);
-    forward(&mut words[..area], n, k, n, 1, bits, bound << levels);
+    forward(&mut words[..area], n, k, n, 1, bits, bound << halvings);
 }

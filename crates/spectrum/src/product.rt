@@ -3,9 +3,9 @@
 ghost use mathlib.Core.Path.{_≡_};
 ghost use Prim.Native.Nat.{ℕ, _+_, _-_, _*_, _%_, _<_, _≤_};
 ghost use lib.ListN.{length, getD};
-ghost use Rattle.spectrum.specs.Product.{factorMost, Product, Settled, Accumulated, Finishing, Finished, finishedOf, inverseMost};
+ghost use Rattle.spectrum.specs.Product.{factorMost, Product, Settled, Accumulated, Reducible, OffsetResidue, offsetResidue, inverseMost};
 use fermat::field::bits_of;
-use fermat::field::levels_of;
+use fermat::field::halvings_of;
 
 // The product of two words of F_4 fits a word. The remainders change nothing; they tell the compiler that the halves above are 0.
 fn product_4(a: u64, c: u64) -> u64
@@ -95,9 +95,9 @@ pub(crate) fn settle(words: &mut [u64], field: usize)
 
 // A word v that the inverse of a tile leaves, as a residue: v / N² and half of 2^bits, modulo 2^bits + 1. N² is 2^rest, and 1 / N² is
 // -2^(bits - rest). The half is added so that the signed reading takes it away again, without a branch.
-fn finished(v: u64, bits: u32, rest: u32) -> u64
-    requires { ⌜ Finishing bits rest v ⌝ }
-    ensures { λ r. ⌜ Finished bits rest v r ⌝ }
+fn offset_residue(v: u64, bits: u32, rest: u32) -> u64
+    requires { ⌜ Reducible bits rest v ⌝ }
+    ensures { λ r. ⌜ OffsetResidue bits rest v r ⌝ }
 {
     let top = 1u64 << bits;
     let cut = 1u64 << rest;
@@ -108,16 +108,16 @@ fn finished(v: u64, bits: u32, rest: u32) -> u64
 }
 
 // Each word that the inverse of a tile leaves as a residue, with half of 2^bits added.
-pub(crate) fn finish(words: &mut [u64], field: usize)
+pub(crate) fn offset_residues(words: &mut [u64], field: usize)
     requires { ⌜ (4 ≤ field) × (field ≤ 5) ⌝ }
     requires { ⌜ ((i : ℕ) → i < length (now words) → getD (now words) i 0 ≤ inverseMost field) ⌝ }
-    ensures { λ _. ⌜ ((i : ℕ) → i < length (now (words .entry)) → getD (now (words .exit)) i 0 ≡ finishedOf field (getD (now (words .entry)) i 0)) ⌝ }
+    ensures { λ _. ⌜ ((i : ℕ) → i < length (now (words .entry)) → getD (now (words .exit)) i 0 ≡ offsetResidue field (getD (now (words .entry)) i 0)) ⌝ }
 {
     let bits = bits_of(field);
-    let rest = 2 * levels_of(field);
+    let rest = 2 * halvings_of(field);
     let mut i = 0;
     while i < words.len() {
-        words[i] = finished(words[i], bits, rest);
+        words[i] = offset_residue(words[i], bits, rest);
         i += 1;
     }
 }

@@ -14,38 +14,38 @@ fn transform_tile(
     words: &mut [u64],
     direction: Direction,
     n: usize,
-    levels: u32,
+    halvings: u32,
     bits: u32,
     bound: u64,
 )
     requires { ⌜ Bound bits bound ⌝ }
-    requires { ⌜ Square (length (now words)) n levels bits bound ⌝ }
+    requires { ⌜ Square (length (now words)) n halvings bits bound ⌝ }
     requires { ⌜ AtMost bound (now words) ⌝ }
-    ensures { λ _. ⌜ TileTransformed direction bits levels n (now (words .entry)) (now (words .exit)) ⌝ }
-    ensures { λ _. ⌜ AtMost (bound * 2 ^ levels * 2 ^ levels) (now (words .exit)) ⌝ }
+    ensures { λ _. ⌜ TileTransformed direction bits halvings n (now (words .entry)) (now (words .exit)) ⌝ }
+    ensures { λ _. ⌜ AtMost (bound * 2 ^ halvings * 2 ^ halvings) (now (words .exit)) ⌝ }
 {
     transform_lanes(words, direction, n, n, n, 1, bits, bound);
     transpose(words, n);
-    transform_lanes(words, direction, n, n, n, 1, bits, bound << levels);
+    transform_lanes(words, direction, n, n, n, 1, bits, bound << halvings);
 }
 
-pub(crate) fn forward_tile(words: &mut [u64], n: usize, levels: u32, bits: u32, bound: u64)
+pub(crate) fn forward_tile(words: &mut [u64], n: usize, halvings: u32, bits: u32, bound: u64)
     requires { ⌜ Bound bits bound ⌝ }
-    requires { ⌜ Square (length (now words)) n levels bits bound ⌝ }
+    requires { ⌜ Square (length (now words)) n halvings bits bound ⌝ }
     requires { ⌜ AtMost bound (now words) ⌝ }
-    ensures { λ _. ⌜ TileForward (2 ^ bits + 1) 2 levels n (λ r j. word n r j (now (words .entry))) 0 (now (words .exit)) ⌝ }
-    ensures { λ _. ⌜ AtMost (bound * 2 ^ levels * 2 ^ levels) (now (words .exit)) ⌝ }
+    ensures { λ _. ⌜ TileForward (2 ^ bits + 1) 2 halvings n (λ r j. word n r j (now (words .entry))) 0 (now (words .exit)) ⌝ }
+    ensures { λ _. ⌜ AtMost (bound * 2 ^ halvings * 2 ^ halvings) (now (words .exit)) ⌝ }
 {
-    transform_tile(words, Direction::Forward, n, levels, bits, bound);
+    transform_tile(words, Direction::Forward, n, halvings, bits, bound);
 }
 
 // Less the division by n * n.
-pub(crate) fn inverse_tile(words: &mut [u64], n: usize, levels: u32, bits: u32, bound: u64)
+pub(crate) fn inverse_tile(words: &mut [u64], n: usize, halvings: u32, bits: u32, bound: u64)
     requires { ⌜ Bound bits bound ⌝ }
-    requires { ⌜ Square (length (now words)) n levels bits bound ⌝ }
+    requires { ⌜ Square (length (now words)) n halvings bits bound ⌝ }
     requires { ⌜ AtMost bound (now words) ⌝ }
-    ensures { λ _. ⌜ TileInverse (2 ^ bits + 1) (2 ^ (bits - 1) + 1) levels n (now (words .entry)) (now (words .exit)) ⌝ }
-    ensures { λ _. ⌜ AtMost (bound * 2 ^ levels * 2 ^ levels) (now (words .exit)) ⌝ }
+    ensures { λ _. ⌜ TileInverse (2 ^ bits + 1) (2 ^ (bits - 1) + 1) halvings n (now (words .entry)) (now (words .exit)) ⌝ }
+    ensures { λ _. ⌜ AtMost (bound * 2 ^ halvings * 2 ^ halvings) (now (words .exit)) ⌝ }
 {
-    transform_tile(words, Direction::Inverse, n, levels, bits, bound);
+    transform_tile(words, Direction::Inverse, n, halvings, bits, bound);
 }

@@ -11,11 +11,12 @@ use lib.ListN.{length}
 use borrow.Rule.Slice.PartMut.{midOf, putMid}
 use Rattle.algebra.specs.Places.{Written, Run}
 use Rattle.algebra.specs.PlacesLaws.{written-as, written-part}
+use Rattle.fermat.specs.Field.{transformLength}
 use Rattle.passes.specs.Halving.{word}
 use Rattle.spectrum.specs.Value.{offsetOf, lessOffset, Storable}
 use Rattle.layer.specs.Planned.{Planned}
 use Rattle.layer.specs.declared.shape.Layer.{Layer}
-use Rattle.layer.specs.Shape.{transformLength, tileSide, gridStep, rowOf, columnOf, tileOf, tileChannel, tileRow, tileColumn}
+use Rattle.layer.specs.Shape.{tileSide, gridStep, rowOf, columnOf, tileOf, tileChannel, tileRow, tileColumn}
 use Rattle.layer.specs.TileSizeLaws.{length-low}
 use Rattle.layer.specs.TileLaws.{Tiled, InTile, planned-tiled, row-lt, column-lt, to-tile, from-tile}
 use Rattle.store.specs.declared.Held.{Held}
@@ -94,7 +95,7 @@ module _ (l : Layer) (planned : Planned l) (t : ℕ) (rows columns : Held)
     same-word p i =
         let inner : p - from ≡ p % (l .rows * l .columns) = omega (arith, in-part p i) in
         let (row, column) = rw inner at (held p i) in
-        rw inner (ap₂ (λ (a b : ℕ). word (transformLength l) a b words)
+        rw inner (ap₂ (λ (a b : ℕ). word (transformLength (l .field)) a b words)
         (word-at l (tileRow l t) (l .rows) rows in-rows (rowOf l p) row)
         (word-at l (tileColumn l t) (l .columns) columns in-columns (columnOf l p) column))
 

@@ -12,9 +12,10 @@ use lib.Pow.{pow-mono}
 use lib.ListN.{length, getD, set}
 use Rattle.algebra.specs.Places.{Run}
 use Rattle.algebra.specs.PlacesLaws.{written-nothing, written-longer, written-as, written-again}
+use Rattle.fermat.specs.Field.{transformLength}
 use Rattle.spectrum.specs.Value.{offsetOf, lessOffset}
 use Rattle.layer.specs.declared.shape.Layer.{Layer}
-use Rattle.layer.specs.Shape.{transformLength, gridStep}
+use Rattle.layer.specs.Shape.{gridStep}
 use Rattle.store.specs.declared.Held.{Held}
 use Rattle.store.specs.Held.{RowStorable, RowStored, WithWords, RowsStorable, RowsStored}
 
@@ -33,17 +34,17 @@ module _ (offset at from step : ℕ) (words : List ℕ) {xs : List ℤ} where
 -- ---- the words of the rows
 
 -- those of every row or column held are among the N by N
-pub words-within : (l : Layer) (h : Held) → WithWords l h → (i : ℕ) → i < h .count → h .word + i * gridStep l < transformLength l
+pub words-within : (l : Layer) (h : Held) → WithWords l h → (i : ℕ) → i < h .count → h .word + i * gridStep l < transformLength (l .field)
 words-within l h last i below =
     let less : i ≤ h .count - 1 = omega arith in
     omega (arith, mul-le-mul-right (gridStep l) less)
 
 -- those of a row are there, and their values fit
-pub row-storable : (l : Layer) (rows columns : Held) (words : List ℕ) → transformLength l * transformLength l ≤ length words
+pub row-storable : (l : Layer) (rows columns : Held) (words : List ℕ) → transformLength (l .field) * transformLength (l .field) ≤ length words
     → WithWords l rows → WithWords l columns → RowsStorable l rows columns words → (r : ℕ) → r < rows .count
-    → RowStorable (offsetOf (l .field)) ((rows .word + r * gridStep l) * transformLength l + columns .word) (gridStep l) (columns .count) words
+    → RowStorable (offsetOf (l .field)) ((rows .word + r * gridStep l) * transformLength (l .field) + columns .word) (gridStep l) (columns .count) words
 row-storable l rows columns words square in-rows in-columns fit r below i less =
-    let row : ℕ = (rows .word + r * gridStep l) * transformLength l in
+    let row : ℕ = (rows .word + r * gridStep l) * transformLength (l .field) in
     let same : row + columns .word + i * gridStep l ≡ row + (columns .word + i * gridStep l) = add-assoc _ _ _ in
     rw same (omega (arith, digits-lt (words-within l rows in-rows r below) (words-within l columns in-columns i less)), fit r i below less)
 
@@ -85,7 +86,7 @@ module _ (l : Layer) (rows columns : Held) (words : List ℕ) {xs : List ℤ} (r
   rows-none = written-nothing (λ p h. omega (arith, h .0))
 
   pub rows-next : {ys zs : List ℤ} (r : ℕ) {offset from step : ℕ} → offset ≡ offsetOf (l .field) → step ≡ gridStep l
-      → from ≡ (rows .word + r * gridStep l) * transformLength l + columns .word
+      → from ≡ (rows .word + r * gridStep l) * transformLength (l .field) + columns .word
       → RowsStored l rows columns r words xs ys
       → RowStored offset ((rows .first + r) * l .columns + columns .first) from step (columns .count) words ys zs
       → RowsStored l rows columns (r + 1) words xs zs
@@ -107,7 +108,7 @@ module _ (l : Layer) (rows columns : Held) (words : List ℕ) {xs : List ℤ} (r
 
       place : (p : ℕ) → Run (e * w + columns .first) (columns .count) p
           → from + (p - (e * w + columns .first)) * step
-          ≡ (rows .word + (p / w - rows .first) * gridStep l) * transformLength l + (columns .word + (p % w - columns .first) * gridStep l)
+          ≡ (rows .word + (p / w - rows .first) * gridStep l) * transformLength (l .field) + (columns .word + (p % w - columns .first) * gridStep l)
       place p h =
           let (row, column) = at p h in
           let up : p / w - rows .first ≡ r = omega arith in

@@ -6,10 +6,11 @@ use Prim.Native.Nat.{ℕ, _+_, _*_, _-_, _/_, _%_, _<_, _≤_}
 use lib.IntN.{ℤ, pos}
 use lib.ListN.{length, getD}
 use Rattle.algebra.specs.Places.{Written, Run}
+use Rattle.fermat.specs.Field.{transformLength}
 use Rattle.passes.specs.Halving.{word}
 use Rattle.spectrum.specs.Value.{offsetOf, lessOffset, Storable}
 use Rattle.layer.specs.declared.shape.Layer.{Layer}
-use Rattle.layer.specs.Shape.{transformLength, tileSide, gridStep}
+use Rattle.layer.specs.Shape.{tileSide, gridStep}
 use Rattle.store.specs.declared.Held.{Held}
 
 -- row or column e of the output lies in tile t of a line of tiles
@@ -37,11 +38,11 @@ RowStored offset at from step count words = Written (pos 0) (Run at count) (λ p
 
 -- the words of the last row or column held, and so of all, are among the N by N
 abbrev pub WithWords : Layer → Held → Type 0
-WithWords l h = h .word + (h .count - 1) * gridStep l < transformLength l
+WithWords l h = h .word + (h .count - 1) * gridStep l < transformLength (l .field)
 
 -- the word of row r and column f, counted from the first of each that is held
 abbrev pub heldWord : Layer → (rows columns : Held) → (r f : ℕ) → List ℕ → ℕ
-heldWord l rows columns r f words = word (transformLength l) (rows .word + r * gridStep l) (columns .word + f * gridStep l) words
+heldWord l rows columns r f words = word (transformLength (l .field)) (rows .word + r * gridStep l) (columns .word + f * gridStep l) words
 
 abbrev pub RowsStorable : Layer → (rows columns : Held) → List ℕ → Type 0
 RowsStorable l rows columns words =

@@ -14,9 +14,10 @@ ghost use lib.IntN.{pos};
 ghost use lib.ListN.{length};
 ghost use Rattle.algebra.specs.Places.{Written};
 ghost use Rattle.base.specs.Number.{ceilingDiv};
+ghost use Rattle.fermat.specs.Field.{transformLength};
 ghost use Rattle.spectrum.specs.Value.{offsetOf, Storable};
 ghost use Rattle.layer.specs.Planned.{Planned, Wanted};
-ghost use Rattle.layer.specs.Shape.{transformLength, tileSide, span, tileTotal, tileOf};
+ghost use Rattle.layer.specs.Shape.{tileSide, span, tileTotal, tileOf};
 ghost use Rattle.store.specs.Stored.{wordOf, storedAt};
 ghost use Rattle.store.specs.Held.{HeldBy, RowStorable, RowStored, WithWords, RowsStorable, RowsStored};
 
@@ -121,10 +122,10 @@ fn held_in(layer: Layer, tile: usize, count: usize) -> Held
 fn store_rows(output: &mut [i32], words: &[u64], layer: Layer, rows: Held, columns: Held)
     requires { ⌜ Planned layer × WithWords layer rows × WithWords layer columns ⌝ }
     requires { ⌜ ((rows .first + rows .count) * layer .columns ≤ length (now output)) × (columns .first + columns .count ≤ layer .columns) ⌝ }
-    requires { ⌜ (transformLength layer * transformLength layer ≤ length (now words)) × RowsStorable layer rows columns (now words) ⌝ }
+    requires { ⌜ (transformLength (layer .field) * transformLength (layer .field) ≤ length (now words)) × RowsStorable layer rows columns (now words) ⌝ }
     ensures { λ _. ⌜ RowsStored layer rows columns (rows .count) (now (words .entry)) (now (output .entry)) (now (output .exit)) ⌝ }
 {
-    let n = field::points_of(layer.field);
+    let n = field::transform_length(layer.field);
     let step = sizes::grid_step(layer);
     let offset = offset_of(layer.field);
     let mut r = 0;
@@ -139,7 +140,7 @@ fn store_rows(output: &mut [i32], words: &[u64], layer: Layer, rows: Held, colum
 // Stores tile `tile` of the layer: the value of each output place that it holds. No other place changes.
 pub fn store_tile(output: &mut [i32], words: &[u64], layer: Layer, tile: usize)
     requires { ⌜ Planned layer × (length (now output) ≡ layer .outputs * layer .rows * layer .columns) × (tile < tileTotal layer) ⌝ }
-    requires { ⌜ transformLength layer * transformLength layer ≤ length (now words) ⌝ }
+    requires { ⌜ transformLength (layer .field) * transformLength (layer .field) ≤ length (now words) ⌝ }
     requires { ⌜ ((p : ℕ) → p < length (now output) → tileOf layer p ≡ tile → Storable (offsetOf (layer .field)) (wordOf layer tile p (now words))) ⌝ }
     ensures { λ _. ⌜ Written (pos 0) (λ p. tileOf layer p ≡ tile) (storedAt layer tile (now (words .entry))) (now (output .entry)) (now (output .exit)) ⌝ }
 {

@@ -60,18 +60,18 @@ module _ {A : Type 0} (test : List ℕ → Bool) (value : List ℕ → A) (cut :
     pub room : i ≤ length values
     pub done : List (List ℕ)
     pub joined : wordsOf cut (drop at text) ≡ done ++ wordsOf cut (drop place text)
-    pub size : length done ≡ i
+    pub same-length : length done ≡ i
     pub passes : everyWord test done ≡ true
     pub held : take i values ≡ map value done
 
   pub passed-none : (values : List A) → at ≤ length text → Passed values at 0
-  passed-none values l = record { short = l; room = omega arith; done = []; joined = refl; size = refl; passes = refl; held = refl }
+  passed-none values l = record { short = l; room = omega arith; done = []; joined = refl; same-length = refl; passes = refl; held = refl }
 
   -- all words were read
   pub passed-all : {values : List A} {place i : ℕ} → Passed values place i → (count : ℕ) → i ≡ count
       → WordsRead test cut text at count (record { valid = true; at = place })
   passed-all {values} {place} {i} p count e =
-      let c : length (p .done) ≡ count = p .size ∙ e in
+      let c : length (p .done) ≡ count = p .same-length ∙ e in
       record {
         reads = rw (p .joined, ← c) (sym (all-pass test (p .done) (wordsOf cut (drop place text)) (p .passes)));
         short = p .short;
@@ -83,7 +83,7 @@ module _ {A : Type 0} (test : List ℕ → Bool) (value : List ℕ → A) (cut :
       → ((words : List (List ℕ)) → map value words ≡ means words) → Passed values place i → (count : ℕ) → i ≡ count → length values ≡ count
       → values ≡ means (take count (wordsOf cut (drop at text)))
   passed-values {values} {place} {i} meant p count e l =
-      let c : length (p .done) ≡ count = p .size ∙ e in
+      let c : length (p .done) ≡ count = p .same-length ∙ e in
       let full : i ≡ length values = e ∙ sym l in
       rw (p .joined, ← c, take-append-seam (p .done) (wordsOf cut (drop place text)), ← meant, ← p .held, full) (sym (take-length values))
 
@@ -96,7 +96,7 @@ module _ {A : Type 0} (test : List ℕ → Bool) (value : List ℕ → A) (cut :
       room = omega (arith, length-set values i x);
       done = p .done ++ (wordAt text r ∷ []);
       joined = p .joined ∙ rw (n .one there) (sym (append-snoc (p .done) (wordAt text r) (wordsOf cut (drop (r .to) text))));
-      size = length-append (p .done) (wordAt text r ∷ []) ∙ omega (arith, p .size);
+      same-length = length-append (p .done) (wordAt text r ∷ []) ∙ omega (arith, p .same-length);
       passes = rw (every-append test (p .done) (wordAt text r ∷ []), p .passes, e);
       held = rw (add-one, take-suc-set values i x l, p .held, map-append value (p .done) (wordAt text r ∷ []), v);
     }
@@ -120,7 +120,7 @@ module _ {A : Type 0} (test : List ℕ → Bool) (value : List ℕ → A) (cut :
     }
       where
         go : Dec (r .from < r .to) → firstPass test count (p .done ++ wordsOf cut (drop place text)) ≡ false
-        go (yes h) = rw (n .one h) (one-fails test (p .done) (wordAt text r) (wordsOf cut (drop (r .to) text)) count (omega (arith, p .size)) e)
+        go (yes h) = rw (n .one h) (one-fails test (p .done) (wordAt text r) (wordsOf cut (drop (r .to) text)) count (omega (arith, p .same-length)) e)
         go (no h) =
             let s : r .from ≡ r .to = omega (arith, n .order) in
-            rw (n .none s) (too-few test (p .done) count (omega (arith, p .size)))
+            rw (n .none s) (too-few test (p .done) count (omega (arith, p .same-length)))

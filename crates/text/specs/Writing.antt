@@ -6,6 +6,6 @@ use lib.ListN.{length, take}
 
 -- the buffer xs became ys, and `end` stands after the text
 pub record Appended (at : ℕ) (text xs ys : List ℕ) (end : ℕ) : Type 0 where
-  pub size : length ys ≡ length xs
+  pub same-length : length ys ≡ length xs
   pub ends : end ≡ at + length text
   pub shown : take end ys ≡ take at xs ++ text

@@ -9,14 +9,14 @@ use lib.Seq.{take-suc-set}
 use Rattle.text.specs.Writing.{Appended}
 
 pub append-none : (at : ℕ) (xs : List ℕ) → Appended at [] xs xs at
-append-none at xs = record { size = refl; ends = omega arith; shown = sym (append-nil _) }
+append-none at xs = record { same-length = refl; ends = omega arith; shown = sym (append-nil _) }
 
 pub append-byte : (at : ℕ) (xs : List ℕ) (b : ℕ) → at < length xs → Appended at (b ∷ []) xs (set xs at b) (at + 1)
-append-byte at xs b l = record { size = length-set xs at b; ends = refl; shown = rw (add-one, take-suc-set) }
+append-byte at xs b l = record { same-length = length-set xs at b; ends = refl; shown = rw (add-one, take-suc-set) }
 
 pub append-two : {at m e : ℕ} {a b xs ys zs : List ℕ} → Appended at a xs ys m → Appended m b ys zs e → Appended at (a ++ b) xs zs e
 append-two {at} {m} {e} {a} {b} {xs} p q = record {
-  size = q .size ∙ p .size;
+  same-length = q .same-length ∙ p .same-length;
   ends = omega (arith, p .ends, q .ends, length-append a b);
   shown = q .shown ∙ ap (λ (l : List ℕ). l ++ b) (p .shown) ∙ append-assoc (take at xs) a b;
 }

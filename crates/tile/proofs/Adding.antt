@@ -18,7 +18,7 @@ use Rattle.algebra.specs.Places.{Changed}
 use Rattle.algebra.specs.PlacesLaws.{getD-put-mid, changed-part, changed-again}
 use Rattle.algebra.specs.CongruenceLaws.{c-eq}
 use Rattle.algebra.specs.ResidueLaws.{represents-add}
-use Rattle.fermat.specs.Field.{modulus}
+use Rattle.fermat.specs.Field.{modulus, transformLength}
 use Rattle.fermat.specs.Transform.{circular2}
 use Rattle.spectrum.specs.Tile.{Spectrum}
 use Rattle.spectrum.specs.Product.{factorMost, productMost, Accumulated}
@@ -27,7 +27,6 @@ use Rattle.layer.specs.PlannedLaws.{cond-le}
 use Rattle.layer.specs.Planned.{Planned}
 use Rattle.layer.specs.Direct.{planeOf}
 use Rattle.layer.specs.declared.shape.Layer.{Layer}
-use Rattle.layer.specs.Shape.{transformLength}
 use Rattle.window.specs.Window.{windowAt}
 use Rattle.tile.specs.declared.origin.Origin.{Origin}
 use Rattle.tile.specs.Channel.{area, KernelReady, KernelKept, WindowReady, Added}
@@ -64,7 +63,7 @@ module _ {A a₁ k₁ a₂ k₂ : ℕ} {xs ks ws : List ℕ} (p : Lending A a₁
   first = changed-part xs ks a₁ k₁ first-room first-length
 
   second-room : a₂ + k₂ ≤ length one
-  second-room = omega (arith, first .size, p .window-at, p .window-count, p .room)
+  second-room = omega (arith, first .same-length, p .window-at, p .window-count, p .room)
 
   second-length : length ws ≡ k₂
   second-length = p .window-length ∙ sym (p .window-count)
@@ -107,7 +106,7 @@ module _ (l : Layer) (map kernel : List ℤ) (o : Origin) where
   pub record Transformed (c : ℕ) (xs zs : List ℕ) : Type 0 where
     pub weight : KernelKept l kernel (o .channel) c zs
     pub window : ℕ → ℕ → ℕ
-    pub window-value : (u v : ℕ) → u < transformLength l → v < transformLength l
+    pub window-value : (u v : ℕ) → u < transformLength (l .field) → v < transformLength (l .field)
         → Represents (modulus (l .field)) (windowAt l map c (o .row) (o .column) u v) (window u v)
     pub window-spectrum : Spectrum (l .field) window (area l + area l) zs
     pub bound : (i : ℕ) → area l ≤ i → i < 3 * area l → getD zs i 0 ≤ factorMost (l .field)
@@ -123,7 +122,7 @@ module _ (l : Layer) (map kernel : List ℤ) (o : Origin) where
     window-value = w .value;
     window-spectrum = spectrum-moved refl (w .spectrum) (λ i h. rw (zero-add i) (c-eq (window-word p i h)));
     bound = lent-most p (λ i h. rw (zero-add i) at (k .bound i h)) (λ i h. w .bound i (omega (arith, p .window-length)));
-    room = omega (arith, lent-changed p .size, p .room);
+    room = omega (arith, lent-changed p .same-length, p .room);
     changed = lent-changed p;
   }
 
@@ -168,7 +167,7 @@ module _ (l : Layer) (map kernel : List ℤ) (o : Origin) where
     pub added-next : {count : ℕ} {ys : List ℕ} → count ≡ area l → Accumulated (l .field) count zs ys → length ys ≡ length zs
         → (xs₀ : List ℕ) → Added l map kernel o c xs₀ xs → Added l map kernel o (c + 1) xs₀ ys
     added-next {ys = ys} e accumulated size xs₀ before = record {
-      sum = λ i j. before .sum i j + circular2 (transformLength l) (ready .weight .words) (ready .window) i j;
+      sum = λ i j. before .sum i j + circular2 (transformLength (l .field)) (ready .weight .words) (ready .window) i j;
       value = λ i j a b d e.
           rw (add-one c, sumZ-last) (represents-add (before .value i j a b d e)
           (channel-represents l plan map kernel (o .channel) (o .row) (o .column) c (ready .window) (ready .weight .words)
@@ -186,5 +185,5 @@ module _ (l : Layer) (map kernel : List ℤ) (o : Origin) where
 
         then : Changed 0 0 (3 * area l) xs ys
         then =
-            let own : Changed 0 0 (area l) zs ys = record { size = size; before = λ p h. absurd (omega arith); after = adds .kept } in
+            let own : Changed 0 0 (area l) zs ys = record { same-length = size; before = λ p h. absurd (omega arith); after = adds .kept } in
             changed-again 0 (3 * area l) (omega arith) (omega arith) (omega arith) (omega arith) (ready .changed) own

@@ -8,7 +8,7 @@ use lib.IntN.{ℤ}
 use lib.ListN.{length, getD, List·getD-append}
 use Rattle.algebra.specs.Residue.{Represents}
 use Rattle.algebra.specs.Sum.{sumZ}
-use Rattle.fermat.specs.Field.{modulus}
+use Rattle.fermat.specs.Field.{modulus, transformLength}
 use Rattle.passes.specs.OrderLaws.{place-lt}
 use Rattle.spectrum.specs.Value.{offsetOf, Storable}
 use Rattle.spectrum.specs.Tile.{Spectrum, Recovered}
@@ -16,7 +16,7 @@ use Rattle.spectrum.specs.SpectrumLaws.{spectrum-kept}
 use Rattle.spectrum.specs.ValueLaws.{Moved}
 use Rattle.layer.specs.Planned.{Planned}
 use Rattle.layer.specs.declared.shape.Layer.{Layer}
-use Rattle.layer.specs.Shape.{transformLength, tileOf, tileChannel, rowInTile, columnInTile}
+use Rattle.layer.specs.Shape.{tileOf, tileChannel, rowInTile, columnInTile}
 use Rattle.layer.specs.Direct.{directAt}
 use Rattle.layer.specs.TileLaws.{InTile, planned-tiled, to-tile}
 use Rattle.checks.specs.Callable.{Callable}
@@ -53,16 +53,16 @@ module _ (l : Layer) (map kernel : List ℤ) (output scratch t : ℕ) (callable 
     abbrev j : ℕ
     j = l .side - 1 + columnInTile l t p
 
-    row : i < transformLength l
+    row : i < transformLength (l .field)
     row = row-in-window l plan t p in-tile
 
-    column : j < transformLength l
+    column : j < transformLength (l .field)
     column = column-in-window l plan t p in-tile
 
     -- the word of place p
     word-is : wordOf l t p (rs ++ rest) ≡ (added .sum i j + offsetOf (l .field)) % modulus (l .field)
     word-is =
-        List·getD-append rs rest 0 (i * transformLength l + j) (omega (arith, size, place-lt i j row column))
+        List·getD-append rs rest 0 (i * transformLength (l .field) + j) (omega (arith, size, place-lt i j row column))
         ∙ recovered (added .sum) sums i j row column
 
     represents : Represents (modulus (l .field))

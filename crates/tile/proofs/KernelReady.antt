@@ -17,14 +17,13 @@ use borrow.Rule.Slice.PartMut.{midOf, putMid, same-len-mid}
 use Rattle.algebra.specs.Places.{Changed}
 use Rattle.algebra.specs.PlacesLaws.{getD-put-mid}
 use Rattle.algebra.specs.CongruenceLaws.{c-eq}
-use Rattle.fermat.specs.Field.{modulus, points}
+use Rattle.fermat.specs.Field.{modulus, transformLength}
 use Rattle.spectrum.specs.Tile.{Spectrum}
 use Rattle.spectrum.specs.Corner.{corner, Cornered}
 use Rattle.spectrum.specs.Product.{factorMost}
 use Rattle.spectrum.specs.SpectrumLaws.{spectrum-moved}
 use Rattle.layer.specs.Planned.{InRange}
 use Rattle.layer.specs.declared.shape.Layer.{Layer}
-use Rattle.layer.specs.Shape.{transformLength}
 use Rattle.layer.specs.TileSizeLaws.{length-low, length-high}
 use Rattle.window.specs.Loaded.{HoldsKernel}
 use Rattle.tile.specs.Channel.{area, KernelReady}
@@ -32,7 +31,7 @@ use Rattle.tile.specs.Channel.{area, KernelReady}
 -- the numbers: n is N, `from` is N², and the part that is lent has s words
 pub record Part (l : Layer) (n s : ℕ) (xs : List ℕ) : Type 0 where
   pub range : InRange l
-  pub side : n ≡ transformLength l
+  pub side : n ≡ transformLength (l .field)
   pub count : s ≡ n * l .side
   pub whole : length xs ≡ 2 * area l
 
@@ -51,7 +50,7 @@ module _ {l : Layer} {n s : ℕ} {xs : List ℕ} (part : Part l n s xs) where
   pub part-le : n * n + s ≤ length xs
   part-le = omega (arith, inside, part .count, whole-n)
 
-  pub part-length : length (midOf (n * n) s xs) ≡ transformLength l * l .side
+  pub part-length : length (midOf (n * n) s xs) ≡ transformLength (l .field) * l .side
   part-length =
       length-take-le s (drop (n * n) xs) (omega (arith, length-drop (n * n) xs, part-le)) ∙ part .count ∙ ap (λ (i : ℕ). i * l .side) (part .side)
 
@@ -63,7 +62,7 @@ module _ {l : Layer} {n s : ℕ} {xs : List ℕ} (part : Part l n s xs) where
     at-corner : (i : ℕ) → i < s → getD (putMid (n * n) s xs ys) (n * n + i) 0 ≡ getD ys i 0
     at-corner = getD-put-mid 0 xs ys (n * n) s part-le size
 
-    pub cornered : Cornered (points (l .field)) (l .side) (2 * modulus (l .field)) (putMid (n * n) s xs ys)
+    pub cornered : Cornered (transformLength (l .field)) (l .side) (2 * modulus (l .field)) (putMid (n * n) s xs ys)
     cornered = subst (λ (N : ℕ). Cornered N (l .side) (2 * modulus (l .field)) (putMid (n * n) s xs ys)) (part .side) (record {
       some = part .range .side-low;
       inside = omega (arith, part .side, length-low l (part .range), part .range .side-high);
@@ -74,7 +73,7 @@ module _ {l : Layer} {n s : ℕ} {xs : List ℕ} (part : Part l n s xs) where
 
     -- the words of the corner
     abbrev words : ℕ → ℕ → ℕ
-    words = corner (l .side) (points (l .field) * points (l .field)) (putMid (n * n) s xs ys)
+    words = corner (l .side) (transformLength (l .field) * transformLength (l .field)) (putMid (n * n) s xs ys)
 
     value : (a b : ℕ) → a < l .side → b < l .side → words a b ≡ getD ys (a * l .side + b) 0
     value a b la lb =
@@ -89,7 +88,7 @@ module _ {l : Layer} {n s : ℕ} {xs : List ℕ} (part : Part l n s xs) where
     outside a b (inl h) = rw (le-ltb a (l .side) h)
     outside a b (inr h) = rw (le-ltb b (l .side) h) (none (ltb a (l .side)))
       where
-        none : (test : Bool) → cond (test && false) (getD (putMid (n * n) s xs ys) (points (l .field) * points (l .field) + (a * l .side + b)) 0) 0 ≡ 0
+        none : (test : Bool) → cond (test && false) (getD (putMid (n * n) s xs ys) (transformLength (l .field) * transformLength (l .field) + (a * l .side + b)) 0) 0 ≡ 0
         none true = refl
         none false = refl
 

@@ -10,12 +10,12 @@ use lib.IntN.{ℤ, natAbs}
 use Rattle.algebra.specs.Residue.{Represents}
 use Rattle.algebra.specs.Sum.{sumZ}
 use Rattle.algebra.specs.ResidueLaws.{represents-mul, represents-sum}
-use Rattle.fermat.specs.Field.{modulus}
+use Rattle.fermat.specs.Field.{modulus, transformLength}
 use Rattle.fermat.specs.Transform.{circular2}
 use Rattle.spectrum.specs.ValueLaws.{Moved}
 use Rattle.layer.specs.Planned.{Planned}
 use Rattle.layer.specs.declared.shape.Layer.{Layer}
-use Rattle.layer.specs.Shape.{transformLength, tileSide, gridStep, channelOf, rowOf, columnOf, tileOf, tileChannel, tileRow, tileColumn, rowInTile, columnInTile}
+use Rattle.layer.specs.Shape.{tileSide, gridStep, channelOf, rowOf, columnOf, tileOf, tileChannel, tileRow, tileColumn, rowInTile, columnInTile}
 use Rattle.layer.specs.Direct.{directAt, planeOf}
 use Rattle.layer.specs.TileSizeLaws.{length-low}
 use Rattle.layer.specs.TileLaws.{InTile, planned-tiled, to-tile, channel-lt}
@@ -34,30 +34,30 @@ in-window : (N K x from : ℕ) → 1 ≤ K → K ≤ N → from ≤ x → x < fr
 in-window N K x from some h low high = omega arith
 
 module _ (l : Layer) (plan : Planned l) where
-  short : l .side ≤ transformLength l
+  short : l .side ≤ transformLength (l .field)
   short = omega (arith, plan .shape .side-high, length-low l (plan .shape))
 
-  pub row-in-window : (t p : ℕ) → InTile l t p → l .side - 1 + rowInTile l t p < transformLength l
+  pub row-in-window : (t p : ℕ) → InTile l t p → l .side - 1 + rowInTile l t p < transformLength (l .field)
   row-in-window t p in-tile =
-      in-window (transformLength l) (l .side) (rowOf l p * gridStep l) (tileRow l t * tileSide l) (plan .shape .side-low) short
+      in-window (transformLength (l .field)) (l .side) (rowOf l p * gridStep l) (tileRow l t * tileSide l) (plan .shape .side-low) short
       (in-tile .row-low) (in-tile .row-high)
 
-  pub column-in-window : (t p : ℕ) → InTile l t p → l .side - 1 + columnInTile l t p < transformLength l
+  pub column-in-window : (t p : ℕ) → InTile l t p → l .side - 1 + columnInTile l t p < transformLength (l .field)
   column-in-window t p in-tile =
-      in-window (transformLength l) (l .side) (columnOf l p * gridStep l) (tileColumn l t * tileSide l) (plan .shape .side-low) short
+      in-window (transformLength (l .field)) (l .side) (columnOf l p * gridStep l) (tileColumn l t * tileSide l) (plan .shape .side-low) short
       (in-tile .column-low) (in-tile .column-high)
 
   -- one map channel: words for its window and for the weights, and the circular sum of both
   module _ (map kernel : List ℤ) (m row column c : ℕ) (window weight : ℕ → ℕ → ℕ)
-      (windows : (u v : ℕ) → u < transformLength l → v < transformLength l
+      (windows : (u v : ℕ) → u < transformLength (l .field) → v < transformLength (l .field)
       → Represents (modulus (l .field)) (windowAt l map c row column u v) (window u v))
       (weights : (a b : ℕ) → a < l .side → b < l .side → Represents (modulus (l .field)) (weightAt l kernel (planeOf l m c) a b) (weight a b))
       (empty : (a b : ℕ) → (l .side ≤ a) ⊎ (l .side ≤ b) → weight a b ≡ 0) where
-    pub channel-represents : (i j : ℕ) → l .side - 1 ≤ i → i < transformLength l → l .side - 1 ≤ j → j < transformLength l
-        → Represents (modulus (l .field)) (channelSum l map kernel m row column c i j) (circular2 (transformLength l) weight window i j)
+    pub channel-represents : (i j : ℕ) → l .side - 1 ≤ i → i < transformLength (l .field) → l .side - 1 ≤ j → j < transformLength (l .field)
+        → Represents (modulus (l .field)) (channelSum l map kernel m row column c i j) (circular2 (transformLength (l .field)) weight window i j)
     unfolding channelSum
     channel-represents i j row-low row-high column-low column-high =
-        rw (folding (transformLength l) (l .side) short weight window empty i j row-low row-high column-low column-high)
+        rw (folding (transformLength (l .field)) (l .side) short weight window empty i j row-low row-high column-low column-high)
         (represents-sum (l .side) (λ a k. represents-sum (l .side) (λ b h.
         represents-mul (weights a b k h) (windows (i - a) (j - b) (omega arith) (omega arith)))))
 

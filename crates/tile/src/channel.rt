@@ -14,7 +14,7 @@ ghost use Prim.Native.Nat.{ℕ, _+_, _*_, _≤_, _<_};
 ghost use lib.ListN.{length, getD};
 ghost use Rattle.spectrum.specs.Product.{productMost};
 ghost use Rattle.layer.specs.Planned.{InRange};
-ghost use Rattle.tile.specs.Channel.{area, KernelReady, KernelKept, WindowReady, Lent, Within, Adds};
+ghost use Rattle.tile.specs.Channel.{area, KernelReady, KernelKept, WindowReady, LentLengths, OriginInRange, Adds};
 
 // The transform of a plane of the kernel. The words are two parts: it comes out in the first, and the second is used on the way.
 fn kernel_spectrum(words: &mut [u64], layer: Layer, kernel: &[i16], plane: usize)
@@ -22,7 +22,7 @@ fn kernel_spectrum(words: &mut [u64], layer: Layer, kernel: &[i16], plane: usize
     requires { ⌜ (length (now kernel) ≡ layer .outputs * layer .inputs * (layer .side * layer .side)) × (plane < layer .outputs * layer .inputs) ⌝ }
     ensures { λ _. ⌜ KernelReady layer (now (kernel .entry)) plane 0 (now (words .exit)) ⌝ }
 {
-    let n = field::points_of(layer.field);
+    let n = field::transform_length(layer.field);
     let from = n * n;
     let to = from + n * layer.side;
     load_kernel(&mut words[from..to], layer, kernel, plane);
@@ -69,13 +69,13 @@ pub(crate) fn add_channel(
     c: usize,
     kept: bool,
 )
-    requires { ⌜ Lent layer (now map) (now kernel) (now scratch) × Within layer origin × (c < layer .inputs) ⌝ }
+    requires { ⌜ LentLengths layer (now map) (now kernel) (now scratch) × OriginInRange layer origin × (c < layer .inputs) ⌝ }
     requires { ⌜ ((i : ℕ) → i < area layer → getD (now scratch) i 0 ≤ c * productMost (layer .field)) ⌝ }
     requires { ⌜ (kept ≡ true → KernelKept layer (now kernel) (origin .channel) c (now scratch)) ⌝ }
     ensures { λ _. ⌜ Adds layer (now (map .entry)) (now (kernel .entry)) origin c (now (scratch .entry)) (now (scratch .exit)) ⌝ }
     ensures { λ _. ⌜ KernelKept layer (now (kernel .entry)) (origin .channel) c (now (scratch .exit)) ⌝ }
 {
-    let n = field::points_of(layer.field);
+    let n = field::transform_length(layer.field);
     let area = n * n;
     let window = 2 * area;
     let end = 3 * area;

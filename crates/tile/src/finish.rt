@@ -17,7 +17,7 @@ ghost use Rattle.layer.specs.Shape.{tileTotal, tileOf, tileChannel};
 ghost use Rattle.layer.specs.Direct.{directAt};
 ghost use Rattle.checks.specs.Callable.{Callable};
 ghost use Rattle.checks.specs.Engine.{tileEngine};
-ghost use Rattle.tile.specs.Channel.{area, KernelKept, Lent, Within, Added};
+ghost use Rattle.tile.specs.Channel.{area, KernelKept, LentLengths, OriginInRange, Added};
 
 // All map channels, one after the other. The last one's transform of the kernel is left in scratch.
 fn add_channels(
@@ -28,7 +28,7 @@ fn add_channels(
     kernel: &[i16],
     kept: bool,
 )
-    requires { ⌜ Lent layer (now map) (now kernel) (now scratch) × Within layer origin ⌝ }
+    requires { ⌜ LentLengths layer (now map) (now kernel) (now scratch) × OriginInRange layer origin ⌝ }
     requires { ⌜ ((i : ℕ) → i < area layer → getD (now scratch) i 0 ≡ 0) ⌝ }
     requires { ⌜ (kept ≡ true → (layer .inputs ≡ 1) × KernelKept layer (now kernel) (origin .channel) 0 (now scratch)) ⌝ }
     ensures { λ _. ⌜ Added layer (now (map .entry)) (now (kernel .entry)) origin (layer .inputs) (now (scratch .entry)) (now (scratch .exit)) ⌝ }
@@ -59,7 +59,7 @@ pub fn finish_tile(
     ensures { λ _. ⌜ Changed 0 0 (3 * area layer) (now (scratch .entry)) (now (scratch .exit)) ⌝ }
     ensures { λ _. ⌜ KernelKept layer (now (kernel .entry)) (tileChannel layer tile) (layer .inputs - 1) (now (scratch .exit)) ⌝ }
 {
-    let n = field::points_of(layer.field);
+    let n = field::transform_length(layer.field);
     let area = n * n;
     let origin = origin_of(layer, tile);
     clear(scratch, 0, area);

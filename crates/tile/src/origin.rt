@@ -6,7 +6,7 @@ ghost use Prim.Native.Nat.{_<_};
 ghost use Rattle.layer.specs.Planned.{Planned};
 ghost use Rattle.layer.specs.Shape.{tileTotal, tileChannel};
 ghost use Rattle.window.specs.Window.{firstRow, firstColumn};
-ghost use Rattle.tile.specs.Channel.{Within};
+ghost use Rattle.tile.specs.Channel.{OriginInRange};
 
 // The output channel of a tile, and the row and the column of the stride-1 grid that its windows begin at.
 pub struct Origin {
@@ -18,7 +18,7 @@ pub struct Origin {
 pub(crate) fn origin_of(layer: Layer, tile: usize) -> Origin
     requires { ⌜ Planned layer × (tile < tileTotal layer) ⌝ }
     ensures { λ r. ⌜ (r .channel ≡ tileChannel layer tile) × (r .row ≡ firstRow layer tile) × (r .column ≡ firstColumn layer tile) ⌝ }
-    ensures { λ r. ⌜ Within layer r ⌝ }
+    ensures { λ r. ⌜ OriginInRange layer r ⌝ }
 {
     let place = place::place_of(layer, tile);
     Origin {

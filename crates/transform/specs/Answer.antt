@@ -7,7 +7,7 @@ use lib.Dec.{ltb, eqb}
 use lib.ListN.{length, getD}
 use Rattle.algebra.specs.Places.{table}
 use Rattle.base.specs.Rules.{Rule, rule, firstBroken, inside, outcome}
-use Rattle.fermat.specs.Field.{modulus, points}
+use Rattle.fermat.specs.Field.{modulus, transformLength}
 use Rattle.fermat.specs.Transform.{transformIn, inverseIn}
 
 -- every word is below m
@@ -21,7 +21,7 @@ fieldRule field = rule 2 (inside 4 5 field)
 
 -- 18: there are N words
 abbrev pub lengthRule : ℕ → List ℕ → Rule
-lengthRule field words = rule 18 (eqb (length words) (points field))
+lengthRule field words = rule 18 (eqb (length words) (transformLength field))
 
 -- 19: each is a residue
 abbrev pub residuesRule : ℕ → List ℕ → Rule
@@ -39,7 +39,7 @@ Operation = ℕ → (ℕ → ℕ) → ℕ → ℕ
 
 -- the operation on the words of a buffer
 unfoldable pub row : Operation → ℕ → List ℕ → List ℕ
-row operation field words = table (points field) (operation field (λ n. getD words n 0))
+row operation field words = table (transformLength field) (operation field (λ n. getD words n 0))
 
 unfoldable pub answered : Operation → ℕ → List ℕ → List ℕ
 answered operation field words = outcome (transformCode field words) (row operation field words) words
@@ -55,5 +55,5 @@ inverted = answered inverseIn
 pub record Accepted (field : ℕ) (words : List ℕ) : Type 0 where
   pub field-low : 4 ≤ field
   pub field-high : field ≤ 5
-  pub size : length words ≡ points field
+  pub same-length : length words ≡ transformLength field
   pub below : (i : ℕ) → i < length words → getD words i 0 < modulus field

@@ -10,7 +10,7 @@ use lib.ListN.{length, getD}
 use borrow.Author.Tests.{ltb-true, lt-ltb, eqb-true, eq-eqb}
 use Rattle.algebra.specs.EveryLaws.{both-true}
 use Rattle.base.specs.RulesLaws.{none-broken, all-hold, inside-low, inside-high, inside-from, outcome-made, outcome-lent}
-use Rattle.fermat.specs.Field.{modulus, points}
+use Rattle.fermat.specs.Field.{modulus, transformLength}
 use Rattle.transform.specs.Answer.{allBelow, transformRules, transformCode, Accepted, Operation, row, answered}
 
 -- ---- every word is below m
@@ -34,7 +34,7 @@ module _ (field : ℕ) (words : List ℕ) where
       record {
         field-low = inside-low 4 5 field (h .0);
         field-high = inside-high 4 5 field (h .0);
-        size = eqb-true (length words) (points field) (h .1 .0);
+        same-length = eqb-true (length words) (transformLength field) (h .1 .0);
         below = each-below (modulus field) words (h .1 .1 .0);
       }
 
@@ -43,7 +43,7 @@ module _ (field : ℕ) (words : List ℕ) where
   code-accepted a =
       all-hold (transformRules field words) (
         inside-from 4 5 field (a .field-low) (a .field-high),
-        (eq-eqb (length words) (points field) (a .size), (below-all (modulus field) words (a .below), tt)),
+        (eq-eqb (length words) (transformLength field) (a .same-length), (below-all (modulus field) words (a .below), tt)),
       )
 
   -- ---- what stands in the buffer in the end

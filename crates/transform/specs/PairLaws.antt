@@ -11,7 +11,7 @@ use lib.ListN.{length, getD}
 use Rattle.algebra.specs.Places.{table}
 use Rattle.algebra.specs.PlacesLaws.{length-table, getD-table, table-of}
 use Rattle.algebra.specs.CongruenceLaws.{c-eq, c-refl, c-mul}
-use Rattle.fermat.specs.Field.{modulus, points, half, scale}
+use Rattle.fermat.specs.Field.{modulus, transformLength, inverseOfTwo, scale}
 use Rattle.fermat.specs.Transform.{powerSum, transformAt, inverseAt, transformIn, inverseIn}
 use Rattle.fermat.specs.TransformLaws.{c-power-sum, undo, redo}
 use Rattle.fermat.specs.FieldLaws.{field-root}
@@ -21,20 +21,20 @@ use Rattle.transform.specs.AnswerLaws.{accepted, code-accepted, answered
 -- an operation that gives residues and looks at N numbers alone
 pub record OnRows (operation : Operation) (field : ℕ) : Type 0 where
   pub below : (x : ℕ → ℕ) (k : ℕ) → operation field x k < modulus field
-  pub same : (x y : ℕ → ℕ) (k : ℕ) → ((i : ℕ) → i < points field → x i ≡ y i) → operation field x k ≡ operation field y k
+  pub same : (x y : ℕ → ℕ) (k : ℕ) → ((i : ℕ) → i < transformLength field → x i ≡ y i) → operation field x k ≡ operation field y k
 
 pub transform-rows : (t : ℕ) → OnRows transformIn t
 unfolding transformAt
 transform-rows t = record {
-  below = λ x k. mod-lt (powerSum (points t) 2 x k) (omega arith);
-  same = λ x y k h. c-power-sum (points t) 2 x y k (λ i l. c-eq (h i l)) .same;
+  below = λ x k. mod-lt (powerSum (transformLength t) 2 x k) (omega arith);
+  same = λ x y k h. c-power-sum (transformLength t) 2 x y k (λ i l. c-eq (h i l)) .same;
 }
 
 pub inverse-rows : (t : ℕ) → OnRows inverseIn t
 unfolding inverseAt
 inverse-rows t = record {
-  below = λ x k. mod-lt (scale t * powerSum (points t) (half t) x k) (omega arith);
-  same = λ x y k h. c-mul (c-refl {a = scale t}) (c-power-sum (points t) (half t) x y k (λ i l. c-eq (h i l))) .same;
+  below = λ x k. mod-lt (scale t * powerSum (transformLength t) (inverseOfTwo t) x k) (omega arith);
+  same = λ x y k h. c-mul (c-refl {a = scale t}) (c-power-sum (transformLength t) (inverseOfTwo t) x y k (λ i l. c-eq (h i l))) .same;
 }
 
 -- the words that an operation makes are accepted again
@@ -43,22 +43,22 @@ pub row-accepted : {operation : Operation} {field : ℕ} → OnRows operation fi
 unfolding row
 row-accepted {operation} {field} o words a =
     let x : ℕ → ℕ = λ n. getD words n 0 in
-    let size : length (table (points field) (operation field x)) ≡ points field = length-table (points field) (operation field x) in
+    let size : length (table (transformLength field) (operation field x)) ≡ transformLength field = length-table (transformLength field) (operation field x) in
     record {
       field-low = a .field-low;
       field-high = a .field-high;
-      size = size;
-      below = λ i l. rw (getD-table 0 (points field) (operation field x) i (omega arith)) (o .below x i);
+      same-length = size;
+      below = λ i l. rw (getD-table 0 (transformLength field) (operation field x) i (omega arith)) (o .below x i);
     }
 
 module _ {there back : Operation} {field : ℕ} (t : OnRows there field) (b : OnRows back field)
-    (returns : (x : ℕ → ℕ) (k : ℕ) → k < points field → x k < modulus field → back field (there field x) k ≡ x k) where
+    (returns : (x : ℕ → ℕ) (k : ℕ) → k < transformLength field → x k < modulus field → back field (there field x) k ≡ x k) where
   back-row : (words : List ℕ) → Accepted field words → row back field (row there field words) ≡ words
   unfolding row
   back-row words a =
       let x : ℕ → ℕ = λ n. getD words n 0 in
-      sym (table-of 0 (points field) _ words (a .size) (λ k l. sym
-      (b .same _ (there field x) k (λ i h. getD-table 0 (points field) (there field x) i h) ∙ returns x k l (a .below k (omega (arith, a .size))))))
+      sym (table-of 0 (transformLength field) _ words (a .same-length) (λ k l. sym
+      (b .same _ (there field x) k (λ i h. getD-table 0 (transformLength field) (there field x) i h) ∙ returns x k l (a .below k (omega (arith, a .same-length))))))
 
   back-answered : (words : List ℕ) → answered back field (answered there field words) ≡ words
   back-answered words = go (ℕ-discrete (transformCode field words) 0)

@@ -16,7 +16,7 @@ fn transform_code(field: usize, words: &[u64]) -> usize
     if code != 0 {
         return code;
     }
-    let code = rules::next(0, 18, words.len() == field::points_of(field));
+    let code = rules::next(0, 18, words.len() == field::transform_length(field));
     if code != 0 {
         return code;
     }
@@ -29,10 +29,10 @@ fn transform_row(field: usize, words: &mut [u64])
     ensures { λ _. ⌜ now (words .exit) ≡ row transformIn field (now (words .entry)) ⌝ }
 {
     let n = words.len();
-    let levels = field::levels_of(field);
+    let halvings = field::halvings_of(field);
     let m = field::modulus_of(field);
     passes::forward(words, n, n, 1, 1, field::bits_of(field), 2 * m);
-    order::reorder(words, levels);
+    order::reorder(words, halvings);
     residues::scale(words, 1, m);
 }
 
@@ -42,9 +42,9 @@ fn inverse_row(field: usize, words: &mut [u64])
     ensures { λ _. ⌜ now (words .exit) ≡ row inverseIn field (now (words .entry)) ⌝ }
 {
     let n = words.len();
-    let levels = field::levels_of(field);
+    let halvings = field::halvings_of(field);
     let m = field::modulus_of(field);
-    order::reorder(words, levels);
+    order::reorder(words, halvings);
     passes::inverse(words, n, 1, 1, field::bits_of(field), 2 * m);
     residues::scale(words, field::scale_of(field), m);
 }

@@ -58,7 +58,7 @@ module _ (l : Layer) (kernel : List ℤ) (plane : ℕ) {xs ys zs : List ℕ} (ro
     where
       go : Dec (p < length ys) → getD zs p 0 ≡ 0
       go (yes k) = cleared .here p k (h, omega arith)
-      go (no k) = List·getD-eq-default zs 0 (omega (arith, cleared .size))
+      go (no k) = List·getD-eq-default zs 0 (omega (arith, cleared .same-length))
 
   pub weighted : HoldsKernel l kernel plane zs
   weighted = record {

@@ -23,17 +23,17 @@ module _ {m : ℕ} where
   word-zero = record { value = record { multiple = pos 0; equation = ap pos (omega arith) }; bound = omega arith }
 
   pub loaded-none : {P : ℕ → Type 0} {v : ℕ → ℤ} {xs : List ℕ} → ((p : ℕ) → P p → ⊥) → Loaded m P v xs xs
-  loaded-none none = record { size = refl; here = λ p l h. absurd (none p h); kept = λ p h. refl }
+  loaded-none none = record { same-length = refl; here = λ p l h. absurd (none p h); kept = λ p h. refl }
 
   -- places that are cleared
   pub loaded-clear : {P : ℕ → Type 0} {xs ys : List ℕ} → Written 0 P (λ _. 0) xs ys → Loaded m P (λ _. pos 0) xs ys
-  loaded-clear w = record { size = w .size; here = λ p l h. rw (w .here p l h) word-zero; kept = w .kept }
+  loaded-clear w = record { same-length = w .same-length; here = λ p l h. rw (w .here p l h) word-zero; kept = w .kept }
 
   -- the same places and values by other names
   pub loaded-as : {P Q : ℕ → Type 0} {u v : ℕ → ℤ} {xs ys : List ℕ} → Loaded m P u xs ys
       → ((p : ℕ) → p < length xs → Q p → P p × (u p ≡ v p)) → ((p : ℕ) → P p → Q p) → Loaded m Q v xs ys
   loaded-as {xs = xs} {ys = ys} w to back = record {
-    size = w .size;
+    same-length = w .same-length;
     here = λ p l h. subst (λ (z : ℤ). Word m z (getD ys p 0)) (to p l h .1) (w .here p l (to p l h .0));
     kept = λ p out. w .kept p (λ h. out (back p h));
   }
@@ -43,7 +43,7 @@ module _ {m : ℕ} where
       → ((p : ℕ) → p < length xs → R p → (P p × (Q p → ⊥) × (u p ≡ w p)) ⊎ (Q p × (v p ≡ w p)))
       → ((p : ℕ) → P p → R p) → ((p : ℕ) → Q p → R p) → Loaded m R w xs zs
   loaded-again {P} {Q} {u = u} {v = v} {w = w} {xs = xs} {ys = ys} {zs = zs} a b to left right = record {
-    size = b .size ∙ a .size;
+    same-length = b .same-length ∙ a .same-length;
     here = λ p l h. ⊎-elim (first p l) (second p l) (to p l h);
     kept = λ p out. b .kept p (λ h. out (right p h)) ∙ a .kept p (λ h. out (left p h));
   }
@@ -52,19 +52,19 @@ module _ {m : ℕ} where
       first p l (h, out, e) = rw (← e, b .kept p out) (a .here p l h)
 
       second : (p : ℕ) → p < length xs → Q p × (v p ≡ w p) → Word m (w p) (getD zs p 0)
-      second p l (h, e) = rw (← e) (b .here p (omega (arith, a .size)) h)
+      second p l (h, e) = rw (← e) (b .here p (omega (arith, a .same-length)) h)
 
   -- one store more: P and the place k make up R
   pub loaded-next : {P R : ℕ → Type 0} {v : ℕ → ℤ} {xs ys : List ℕ} (k x : ℕ) → k < length xs → Loaded m P v xs ys → Word m (v k) x
       → ((p : ℕ) → R p → (p ≡ k → ⊥) → P p) → ((p : ℕ) → P p → R p) → R k → Loaded m R v xs (set ys k x)
   loaded-next {P} {R} {v} {xs} {ys} k x l w one to back last = record {
-    size = length-set ys k x ∙ w .size;
+    same-length = length-set ys k x ∙ w .same-length;
     here = λ p lp h. go p lp h (ℕ-discrete p k);
     kept = λ p out. getD-set-other ys k p x 0 (λ e. out (subst R (sym e) last)) ∙ w .kept p (λ h. out (back p h));
   }
     where
       go : (p : ℕ) → p < length xs → R p → Dec (p ≡ k) → Word m (v p) (getD (set ys k x) p 0)
-      go p lp h (yes e) = rw (e, getD-set-same ys k x 0 (omega (arith, w .size))) one
+      go p lp h (yes e) = rw (e, getD-set-same ys k x 0 (omega (arith, w .same-length))) one
       go p lp h (no d) = rw (getD-set-other ys k p x 0 d) (w .here p lp (to p h d))
 
   -- a run, one place longer

@@ -11,11 +11,10 @@ use lib.IntN.{ℤ, pos}
 use lib.ListN.{length, getD}
 use Rattle.algebra.specs.Planes.{cell}
 use Rattle.algebra.specs.Places.{Run}
-use Rattle.fermat.specs.Field.{modulus}
+use Rattle.fermat.specs.Field.{modulus, transformLength}
 use Rattle.spectrum.specs.Value.{Word}
 use Rattle.layer.specs.Windows.{spread}
 use Rattle.layer.specs.declared.shape.Layer.{Layer}
-use Rattle.layer.specs.Shape.{transformLength}
 use Rattle.layer.specs.Direct.{when}
 use Rattle.layer.specs.WindowLaws.{spread-is, spread-yes, when-yes, when-no}
 use Rattle.window.specs.declared.shown.Shown.{Shown}
@@ -25,7 +24,7 @@ use Rattle.window.specs.Shows.{Shows, shownAt, lineAt}
 use Rattle.window.proofs.Loads.{loaded-as, loaded-runs}
 
 -- the values: at place v of its row, the window shows what s says
-module _ (l : Layer) (column : ℕ) (s : Shown) (shows : Shows l column s) (at v : ℕ) (short : v < transformLength l) where
+module _ (l : Layer) (column : ℕ) (s : Shown) (shows : Shows l column s) (at v : ℕ) (short : v < transformLength (l .field)) where
   -- a value stands there, the one i after the first
   there : T (spread (s .spacing) (edge l) (l .width) (column + v))
       → T (spread (s .spacing) (at + s .begin) (s .count) (at + v))
@@ -74,41 +73,41 @@ module _ (l : Layer) (column : ℕ) (s : Shown) (shows : Shows l column s) (at v
 
 -- the value at the flat place p of a window
 abbrev pub windowOf : Layer → List ℤ → (channel row column p : ℕ) → ℤ
-windowOf l map channel row column p = windowAt l map channel row column (p / transformLength l) (p % transformLength l)
+windowOf l map channel row column p = windowAt l map channel row column (p / transformLength (l .field)) (p % transformLength (l .field))
 
 module _ (l : Layer) (map : List ℤ) (channel row column : ℕ) where
   -- what is shown for the grid row `row + u` is the window's row u
-  window-row : (s : Shown) (u p : ℕ) → Shows l column s → Run (u * transformLength l) (transformLength l) p
-      → lineAt l s map channel (row + u) (u * transformLength l) p ≡ windowOf l map channel row column p
-  window-row s u p shows (low, high) = go (p - u * transformLength l) (omega arith) (omega arith)
+  window-row : (s : Shown) (u p : ℕ) → Shows l column s → Run (u * transformLength (l .field)) (transformLength (l .field)) p
+      → lineAt l s map channel (row + u) (u * transformLength (l .field)) p ≡ windowOf l map channel row column p
+  window-row s u p shows (low, high) = go (p - u * transformLength (l .field)) (omega arith) (omega arith)
     where
-      go : (v : ℕ) → p ≡ u * transformLength l + v → v < transformLength l
-          → lineAt l s map channel (row + u) (u * transformLength l) p ≡ windowOf l map channel row column p
+      go : (v : ℕ) → p ≡ u * transformLength (l .field) + v → v < transformLength (l .field)
+          → lineAt l s map channel (row + u) (u * transformLength (l .field)) p ≡ windowOf l map channel row column p
       go v e short =
           rw (e, digits-div u short, digits-mod u short)
           (ap (when (spread (spacing l) (edge l) (l .height) (row + u)))
-          (shown l column s shows (u * transformLength l) v short map channel ((row + u - edge l) / spacing l)))
+          (shown l column s shows (u * transformLength (l .field)) v short map channel ((row + u - edge l) / spacing l)))
 
   -- one row more
   pub next-row : {m : ℕ} {xs ys zs : List ℕ} (s : Shown) (u : ℕ) → Shows l column s
-      → Loaded m (Run 0 (u * transformLength l)) (windowOf l map channel row column) xs ys
-      → Loaded m (Run (u * transformLength l) (transformLength l)) (λ p. lineAt l s map channel (row + u) (u * transformLength l) p) ys zs
-      → Loaded m (Run 0 ((u + 1) * transformLength l)) (windowOf l map channel row column) xs zs
+      → Loaded m (Run 0 (u * transformLength (l .field))) (windowOf l map channel row column) xs ys
+      → Loaded m (Run (u * transformLength (l .field)) (transformLength (l .field))) (λ p. lineAt l s map channel (row + u) (u * transformLength (l .field)) p) ys zs
+      → Loaded m (Run 0 ((u + 1) * transformLength (l .field))) (windowOf l map channel row column) xs zs
   next-row {m} {xs} {ys} {zs} s u shows before line =
-      let e : u * transformLength l + transformLength l ≡ (u + 1) * transformLength l = omega arith in
-      rw e at (loaded-runs 0 (u * transformLength l) (transformLength l) before next)
+      let e : u * transformLength (l .field) + transformLength (l .field) ≡ (u + 1) * transformLength (l .field) = omega arith in
+      rw e at (loaded-runs 0 (u * transformLength (l .field)) (transformLength (l .field)) before next)
     where
-      next : Loaded m (Run (0 + u * transformLength l) (transformLength l)) (windowOf l map channel row column) ys zs
-      next = rw (zero-add (u * transformLength l)) (loaded-as line (λ p _ h. (h, window-row s u p shows h)) (λ p h. h))
+      next : Loaded m (Run (0 + u * transformLength (l .field)) (transformLength (l .field))) (windowOf l map channel row column) ys zs
+      next = rw (zero-add (u * transformLength (l .field))) (loaded-as line (λ p _ h. (h, window-row s u p shows h)) (λ p h. h))
 
   -- all rows
-  pub windowed : {xs ys : List ℕ} → length xs ≡ transformLength l * transformLength l
-      → Loaded (modulus (l .field)) (Run 0 (transformLength l * transformLength l)) (windowOf l map channel row column) xs ys
+  pub windowed : {xs ys : List ℕ} → length xs ≡ transformLength (l .field) * transformLength (l .field)
+      → Loaded (modulus (l .field)) (Run 0 (transformLength (l .field) * transformLength (l .field))) (windowOf l map channel row column) xs ys
       → HoldsWindow l map channel row column ys
   windowed {ys = ys} size loaded = record {
-    value = λ u v h k. rw (digits-div u k, digits-mod u k) at (each (u * transformLength l + v) (digits-lt h k) .value);
-    bound = λ p h. each p (omega (arith, loaded .size)) .bound;
+    value = λ u v h k. rw (digits-div u k, digits-mod u k) at (each (u * transformLength (l .field) + v) (digits-lt h k) .value);
+    bound = λ p h. each p (omega (arith, loaded .same-length)) .bound;
   }
     where
-      each : (p : ℕ) → p < transformLength l * transformLength l → Word (modulus (l .field)) (windowOf l map channel row column p) (getD ys p 0)
+      each : (p : ℕ) → p < transformLength (l .field) * transformLength (l .field) → Word (modulus (l .field)) (windowOf l map channel row column p) (getD ys p 0)
       each p h = loaded .here p (omega arith) (omega arith, omega arith)

@@ -5,24 +5,23 @@ use Prim.Native.Nat.{ℕ, _*_, _≤_, _<_}
 use lib.IntN.{ℤ}
 use lib.ListN.{length, getD}
 use Rattle.algebra.specs.Residue.{Represents}
-use Rattle.fermat.specs.Field.{modulus}
+use Rattle.fermat.specs.Field.{modulus, transformLength}
 use Rattle.passes.specs.Halving.{word}
 use Rattle.passes.specs.Butterfly.{AtMost}
 use Rattle.spectrum.specs.Value.{Word}
 use Rattle.layer.specs.declared.shape.Layer.{Layer}
-use Rattle.layer.specs.Shape.{transformLength}
 use Rattle.window.specs.Window.{windowAt, weightAt}
 
 -- ys is xs with a word for `value p` at each place p of P
 pub record Loaded (m : ℕ) (P : ℕ → Type 0) (value : ℕ → ℤ) (xs ys : List ℕ) : Type 0 where
-  pub size : length ys ≡ length xs
+  pub same-length : length ys ≡ length xs
   pub here : (p : ℕ) → p < length xs → P p → Word m (value p) (getD ys p 0)
   pub kept : (p : ℕ) → (P p → ⊥) → getD ys p 0 ≡ getD xs p 0
 
 -- xs holds the window of a map channel that begins at that row and column
 pub record HoldsWindow (l : Layer) (map : List ℤ) (channel row column : ℕ) (xs : List ℕ) : Type 0 where
-  pub value : (u v : ℕ) → u < transformLength l → v < transformLength l
-      → Represents (modulus (l .field)) (windowAt l map channel row column u v) (word (transformLength l) u v xs)
+  pub value : (u v : ℕ) → u < transformLength (l .field) → v < transformLength (l .field)
+      → Represents (modulus (l .field)) (windowAt l map channel row column u v) (word (transformLength (l .field)) u v xs)
   pub bound : AtMost (2 * modulus (l .field)) xs
 
 -- xs holds a plane of the kernel in its first K rows of K words, and 0 after them

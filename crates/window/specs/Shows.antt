@@ -4,9 +4,9 @@ use mathlib.Core.List.{List}
 use Prim.Native.Nat.{ℕ, _+_, _*_, _-_, _/_, _≤_, _<_}
 use lib.IntN.{ℤ, pos}
 use lib.ListN.{getD}
+use Rattle.fermat.specs.Field.{transformLength}
 use Rattle.layer.specs.Windows.{spread}
 use Rattle.layer.specs.declared.shape.Layer.{Layer}
-use Rattle.layer.specs.Shape.{transformLength}
 use Rattle.layer.specs.Direct.{when}
 use Rattle.window.specs.declared.shown.Shown.{Shown}
 use Rattle.window.specs.Window.{spacing, edge}
@@ -19,7 +19,7 @@ pub record Inside (n : ℕ) (s : Shown) : Type 0 where
 
 -- and within the map
 pub record Fitting (l : Layer) (s : Shown) : Type 0 where
-  pub inside : Inside (transformLength l) s
+  pub inside : Inside (transformLength (l .field)) s
   pub spacing-is : s .spacing ≡ spacing l
   pub in-map : (i : ℕ) → i < s .count → s .first + i < l .width
   pub small : s .first ≤ 20000
@@ -29,7 +29,7 @@ pub record Shows (l : Layer) (column : ℕ) (s : Shown) : Type 0 where
   pub fitting : Fitting l s
   pub place : column + s .begin ≡ edge l + s .first * s .spacing
   pub least : (j : ℕ) → column ≤ edge l + j * s .spacing → s .first ≤ j
-  pub all : (i : ℕ) → s .first + i < l .width → s .begin + i * s .spacing < transformLength l → i < s .count
+  pub all : (i : ℕ) → s .first + i < l .width → s .begin + i * s .spacing < transformLength (l .field) → i < s .count
 
 -- the value at place p of a row of the window whose places begin at `at`; the first value that it shows is the one at `from`
 abbrev pub shownAt : Shown → (at : ℕ) → List ℤ → (from p : ℕ) → ℤ

@@ -9,8 +9,8 @@ ghost use Prim.Native.Nat.{_+_, _-_, _*_, _≤_, _<_};
 ghost use lib.IntN.{pos};
 ghost use lib.ListN.{length, getD};
 ghost use Rattle.algebra.specs.Places.{Run};
+ghost use Rattle.fermat.specs.Field.{transformLength};
 ghost use Rattle.layer.specs.Planned.{InRange};
-ghost use Rattle.layer.specs.Shape.{transformLength};
 ghost use Rattle.window.specs.Loaded.{Loaded, HoldsKernel};
 
 // The first `count` words hold `count` values from the value `from` on, the last of them first.
@@ -29,7 +29,7 @@ fn load_turned(words: &mut [u64], count: usize, values: &[i16], from: usize, mod
 
 // The weights of a plane, turned round in CONV: their order is reversed in rows and in columns, so in the plane.
 pub fn load_kernel(words: &mut [u64], layer: Layer, kernel: &[i16], plane: usize)
-    requires { ⌜ InRange layer × (length (now words) ≡ transformLength layer * layer .side) ⌝ }
+    requires { ⌜ InRange layer × (length (now words) ≡ transformLength (layer .field) * layer .side) ⌝ }
     requires { ⌜ (length (now kernel) ≡ layer .outputs * layer .inputs * (layer .side * layer .side)) × (plane < layer .outputs * layer .inputs) ⌝ }
     ensures { λ _. ⌜ HoldsKernel layer (now (kernel .entry)) plane (now (words .exit)) ⌝ }
 {

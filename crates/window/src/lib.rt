@@ -14,10 +14,9 @@ ghost use lib.Dec.{T};
 ghost use lib.IntN.{pos};
 ghost use lib.ListN.{length, getD};
 ghost use Rattle.algebra.specs.Places.{Run};
-ghost use Rattle.fermat.specs.Field.{modulus};
+ghost use Rattle.fermat.specs.Field.{modulus, transformLength};
 ghost use Rattle.layer.specs.Planned.{InRange};
 ghost use Rattle.layer.specs.Windows.{spread};
-ghost use Rattle.layer.specs.Shape.{transformLength};
 ghost use Rattle.window.specs.Loaded.{Loaded, HoldsWindow};
 ghost use Rattle.window.specs.Shows.{Inside, Fitting, shownAt, lineAt};
 
@@ -92,11 +91,11 @@ fn load_line(
     channel: usize,
     line: usize,
 )
-    requires { ⌜ InRange layer × Fitting layer shown × (at + transformLength layer ≤ length (now words)) ⌝ }
+    requires { ⌜ InRange layer × Fitting layer shown × (at + transformLength (layer .field) ≤ length (now words)) ⌝ }
     requires { ⌜ (length (now map) ≡ layer .inputs * layer .height * layer .width) × (channel < layer .inputs) ⌝ }
-    ensures { λ _. ⌜ Loaded (modulus (layer .field)) (Run at (transformLength layer)) (λ p. lineAt layer shown (now (map .entry)) channel line at p) (now (words .entry)) (now (words .exit)) ⌝ }
+    ensures { λ _. ⌜ Loaded (modulus (layer .field)) (Run at (transformLength (layer .field))) (λ p. lineAt layer shown (now (map .entry)) channel line at p) (now (words .entry)) (now (words .exit)) ⌝ }
 {
-    let n = field::points_of(layer.field);
+    let n = field::transform_length(layer.field);
     if has_values(layer, line) {
         let map_row = (line - edge_of(layer)) / shown.spacing;
         let from = (channel * layer.height + map_row) * layer.width + shown.first;
@@ -123,11 +122,11 @@ pub fn load_window(
     row: usize,
     column: usize,
 )
-    requires { ⌜ InRange layer × (length (now words) ≡ transformLength layer * transformLength layer) × (row ≤ 10000) × (column ≤ 10000) ⌝ }
+    requires { ⌜ InRange layer × (length (now words) ≡ transformLength (layer .field) * transformLength (layer .field)) × (row ≤ 10000) × (column ≤ 10000) ⌝ }
     requires { ⌜ (length (now map) ≡ layer .inputs * layer .height * layer .width) × (channel < layer .inputs) ⌝ }
     ensures { λ _. ⌜ HoldsWindow layer (now (map .entry)) channel row column (now (words .exit)) ⌝ }
 {
-    let n = field::points_of(layer.field);
+    let n = field::transform_length(layer.field);
     let shown = shown_of(layer, column);
     let mut u = 0;
     while u < n {

@@ -53,7 +53,7 @@ pub(crate) fn shown_of(layer: Layer, column: usize) -> Shown
     let before = edge_of(layer);
     let first = ceiling_div(above(before, column), spacing);
     let begin = before + first * spacing - column;
-    let room = ceiling_div(field::points_of(layer.field) - begin, spacing);
+    let room = ceiling_div(field::transform_length(layer.field) - begin, spacing);
     let left = above(first, layer.width);
     let count = if room < left { room } else { left };
     Shown {

@@ -77,7 +77,7 @@ returns c =
     let s = c .before .before in
     let w = loop .inv .1 in
     let count : length (now (s .args .joined)) ≡ kernelCount (joinedLayer (s .args .first) (s .args .second)) = s .pre .1 .0 in
-    table-of (pos 0) _ _ (loop .joined) (w .size ∙ count) (λ p l. w .here p (omega arith) (omega arith, omega arith))
+    table-of (pos 0) _ _ (loop .joined) (w .same-length ∙ count) (λ p l. w .here p (omega arith) (omega arith, omega arith))
 
 pub write-weights-spec : {M : Type 1} → statement M
 write-weights-spec =

@@ -1,4 +1,4 @@
--- Level after level is written; `half` is half of 2^shift.
+-- Level after level is written; `rounding` is half of 2^shift.
 use mathlib.Core.Path.{_≡_, ap, _∙_}
 use Prim.Native.Nat.{ℕ, _+_, _*_, _-_, _/_, _^_, _≤_}
 use native.Mathlib.Omega.{arith}
@@ -19,11 +19,11 @@ use Rattle.levels.proofs.write_levels.Statement.{statement}
 use Rattle.levels.proofs.write_levels.Tie as tie
 
 abbrev Inv-loop : tie.InvT-loop
-Inv-loop shift bound outputs levels₀ bits most half i₀ levels i =
+Inv-loop shift bound outputs levels₀ bits most rounding i₀ levels i =
     (i ≤ length outputs) × Written (pos 0) (Run 0 i) (λ p. level shift bound (getD outputs p (pos 0))) levels₀ levels
 
 abbrev μ-loop : tie.MeasureT-loop
-μ-loop shift bound outputs levels₀ bits most half i₀ levels i = length outputs - i
+μ-loop shift bound outputs levels₀ bits most rounding i₀ levels i = length outputs - i
 
 cast-bits : tie.Need-cast-bits Inv-loop μ-loop
 cast-bits c = search needs
@@ -31,8 +31,8 @@ cast-bits c = search needs
 cast-most : tie.Need-cast-most Inv-loop μ-loop
 cast-most c = search needs
 
-shl-half : tie.Need-shl-half Inv-loop μ-loop
-shl-half c = search needs
+shl-rounding : tie.Need-shl-rounding Inv-loop μ-loop
+shl-rounding c = search needs
 
 loop-holds : tie.Need-loop-holds Inv-loop μ-loop
 loop-holds c = (omega arith, written-nothing (λ p h. omega arith))
@@ -97,7 +97,7 @@ write-levels-spec =
     μ-loop
     cast-bits
     cast-most
-    shl-half
+    shl-rounding
     loop-holds
     mul-level-of
     shared-slice-copy-out-level-of

@@ -76,7 +76,7 @@ returns c =
     let w = loop .inv .2 in
     let lent = now (c .before .before .args .map) in
     let last : loop .i ≡ length lent = omega arith in
-    (rw last at (loop .inv .1), table-of (pos 0) (length lent) _ (loop .map) (w .size) (λ p l. w .here p l (omega arith, omega arith)))
+    (rw last at (loop .inv .1), table-of (pos 0) (length lent) _ (loop .map) (w .same-length) (λ p l. w .here p l (omega arith, omega arith)))
 
 pub fill-spec : {M : Type 1} → statement M
 fill-spec =

@@ -26,8 +26,8 @@ inside c =
     let state = c .before .loop .inv in
     let s = c .before .before .before in
     let whole = s .pre .1 .0 .0 in
-    let short : state .count * (2 * s .args .half) < whole .blocks * (2 * s .args .half) = omega (arith, c .loop-test .taken, state .start, state .size, whole .whole) in
-    omega (arith, block-inside (state .count) (whole .blocks) (2 * s .args .half) short, state .start, state .size, whole .whole)
+    let short : state .count * (2 * s .args .half) < whole .blocks * (2 * s .args .half) = omega (arith, c .loop-test .taken, state .start, state .same-length, whole .whole) in
+    omega (arith, block-inside (state .count) (whole .blocks) (2 * s .args .half) short, state .start, state .same-length, whole .whole)
 
 -- and what is lent of it is as long as the block
 lent : (c : tie.In-loop Inv-loop μ-loop) →
@@ -77,7 +77,7 @@ stage-requires c κs =
       (
         rw (part-length (loop .at) size (loop .words) (fits turn), lent turn) (s .pre .1 .0 .1),
         part-most (loop .at) size (loop .words) (fits turn) (a .bound)
-            (λ i l. omega (arith, state .rest (loop .at + i) (omega arith), s .pre .1 .1 (loop .at + i) (omega (arith, fits turn, state .size)))),
+            (λ i l. omega (arith, state .rest (loop .at + i) (omega arith), s .pre .1 .1 (loop .at + i) (omega (arith, fits turn, state .same-length)))),
       ),
     )
 
@@ -87,8 +87,8 @@ loop-less c =
     let loop = turn .before .loop in
     let s = turn .before .before .before in
     let whole = s .pre .1 .0 .0 in
-    let some : 0 < 2 * s .args .half = pos-of-dvd-of-pos (dvd-mul-left (2 * s .args .half) (whole .blocks)) (omega (arith, turn .loop-test .taken, loop .inv .size, whole .whole)) in
-    omega (arith, inside turn, loop .inv .size)
+    let some : 0 < 2 * s .args .half = pos-of-dvd-of-pos (dvd-mul-left (2 * s .args .half) (whole .blocks)) (omega (arith, turn .loop-test .taken, loop .inv .same-length, whole .whole)) in
+    omega (arith, inside turn, loop .inv .same-length)
 
 loop-again : tie.Need-loop-again Inv-loop μ-loop
 loop-again c =
@@ -101,13 +101,13 @@ loop-again c =
     (lent turn) (fits turn) (call .stage .kept .0 ∙ part-length (loop .at) size (loop .words) (fits turn)) (loop .inv) (call .stage .ensures)
 
 same-length : tie.Need-same-length Inv-loop μ-loop
-same-length c = c .before .loop .inv .size
+same-length c = c .before .loop .inv .same-length
 
 returns : tie.Need-returns Inv-loop μ-loop
 returns c =
     let loop = c .before .loop in
     let a = c .before .before .before .args in
-    blocks-all (a .step) (a .bits) (a .bound) (a .unit) (a .rows) (a .lanes) (a .half) (loop .inv) (omega (arith, c .loop-test .left, loop .inv .size))
+    blocks-all (a .step) (a .bits) (a .bound) (a .unit) (a .rows) (a .lanes) (a .half) (loop .inv) (omega (arith, c .loop-test .left, loop .inv .same-length))
 
 pub pass-spec : {M : Type 1} → statement M
 pass-spec =

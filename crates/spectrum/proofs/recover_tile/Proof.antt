@@ -8,11 +8,11 @@ use Rattle.spectrum.proofs.Recovery.{Numbers, inverse-asks, inverse-mos
 use Rattle.spectrum.proofs.recover_tile.Statement.{statement}
 use Rattle.spectrum.proofs.recover_tile.Tie as tie
 
-points-of-requires : tie.Need-points-of-requires
-points-of-requires c κs = search needs
+transform-length-requires : tie.Need-transform-length-requires
+transform-length-requires c κs = search needs
 
-levels-of-requires : tie.Need-levels-of-requires
-levels-of-requires c κs = search needs
+halvings-of-requires : tie.Need-halvings-of-requires
+halvings-of-requires c κs = search needs
 
 bits-of-requires : tie.Need-bits-of-requires
 bits-of-requires c κs = search needs
@@ -36,11 +36,11 @@ module _ (c : tie.After-settle) where
   abbrev start : tie.Start
   start = field .before .before .before .before .before
 
-  abbrev numbers : Numbers (start .args .field) (field .before .before .before .points-of .result) (field .before .before .levels-of .result)
+  abbrev numbers : Numbers (start .args .field) (field .before .before .before .transform-length .result) (field .before .before .halvings-of .result)
       (field .before .bits-of .result) (field .modulus-of .result)
   numbers = record {
-    side = field .before .before .before .points-of .ensures;
-    levels = field .before .before .levels-of .ensures;
+    side = field .before .before .before .transform-length .ensures;
+    halvings = field .before .before .halvings-of .ensures;
     bits = field .before .bits-of .ensures;
     field = field .modulus-of .ensures;
   }
@@ -52,8 +52,8 @@ inverse-tile-requires c κs =
     inverse-asks (numbers down) (down .settle .last .0) (s .pre .1) (down .settle .kept .0 ∙ s .pre .2)
     (λ i l. down .settle .ensures i (omega (arith, down .settle .kept .0)) .bound)
 
-finish-requires : tie.Need-finish-requires
-finish-requires c κs =
+offset-residues-requires : tie.Need-offset-residues-requires
+offset-residues-requires c κs =
     let inverted = c .before .before .before in
     let down = inverted .before .before .before .before in
     let s = start down in
@@ -68,20 +68,20 @@ returns c =
     let inverted = last .before .before .before .before in
     let down = inverted .before .before .before .before in
     let s = start down in
-    recovered (numbers down) (now (s .args .words)) (down .settle .last .0) (inverted .inverse-tile .last .0) (last .finish .last .0) (s .pre .2)
-    (inverted .inverse-tile .kept .0 ∙ down .settle .kept .0) (down .settle .ensures) (inverted .inverse-tile .ensures .0) (last .finish .ensures)
+    recovered (numbers down) (now (s .args .words)) (down .settle .last .0) (inverted .inverse-tile .last .0) (last .offset-residues .last .0) (s .pre .2)
+    (inverted .inverse-tile .kept .0 ∙ down .settle .kept .0) (down .settle .ensures) (inverted .inverse-tile .ensures .0) (last .offset-residues .ensures)
 
 pub recover-tile-spec : {M : Type 1} → statement M
 recover-tile-spec =
     tie.close
     (tie.spec
-    points-of-requires
-    levels-of-requires
+    transform-length-requires
+    halvings-of-requires
     bits-of-requires
     modulus-of-requires
     mul-bound
     settle-requires
     inverse-tile-requires
-    finish-requires
+    offset-residues-requires
     same-length
     returns)

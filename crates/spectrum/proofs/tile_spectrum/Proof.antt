@@ -7,11 +7,11 @@ use borrow.Author.Needs.{needs}
 use Rattle.spectrum.proofs.tile_spectrum.Statement.{statement}
 use Rattle.spectrum.proofs.tile_spectrum.Tie as tie
 
-points-of-requires : tie.Need-points-of-requires
-points-of-requires c κs = search needs
+transform-length-requires : tie.Need-transform-length-requires
+transform-length-requires c κs = search needs
 
-levels-of-requires : tie.Need-levels-of-requires
-levels-of-requires c κs = search needs
+halvings-of-requires : tie.Need-halvings-of-requires
+halvings-of-requires c κs = search needs
 
 bits-of-requires : tie.Need-bits-of-requires
 bits-of-requires c κs = search needs
@@ -30,7 +30,7 @@ forward-tile-requires c κs =
     let s = bits .before .before .before .before in
     let t = s .args .field in
     let high = s .pre .0 .0 in
-    rw (c .modulus-of .ensures, bits .bits-of .ensures, bits .before .levels-of .ensures, bits .before .before .points-of .ensures)
+    rw (c .modulus-of .ensures, bits .bits-of .ensures, bits .before .halvings-of .ensures, bits .before .before .transform-length .ensures)
     (row-bound t high, (tile-square t high (s .pre .0 .1) (omega arith), s .pre .1))
 
 same-length : tie.Need-same-length
@@ -40,15 +40,15 @@ returns : tie.Need-returns
 returns c =
     let f = c .before .before in
     let bits = f .before .before .before in
-    rw (f .before .modulus-of .ensures, bits .bits-of .ensures, bits .before .levels-of .ensures, bits .before .before .points-of .ensures)
+    rw (f .before .modulus-of .ensures, bits .bits-of .ensures, bits .before .halvings-of .ensures, bits .before .before .transform-length .ensures)
     at (f .forward-tile .ensures)
 
 pub tile-spectrum-spec : {M : Type 1} → statement M
 tile-spectrum-spec =
     tie.close
     (tie.spec
-    points-of-requires
-    levels-of-requires
+    transform-length-requires
+    halvings-of-requires
     bits-of-requires
     modulus-of-requires
     mul-forward-tile

@@ -7,7 +7,7 @@ use borrow.Author.Needs.{needs}
 use lib.Arith.{digits-lt}
 use lib.ListN.{length}
 use denote.Ref.{now}
-use Rattle.layer.specs.Shape.{transformLength}
+use Rattle.fermat.specs.Field.{transformLength}
 use Rattle.layer.specs.TileSizeLaws.{length-high}
 use Rattle.store.specs.Held.{RowsStored}
 use Rattle.store.proofs.StoredRows.{words-within, offset-high, row-storable, rows-none, rows-next}
@@ -38,7 +38,7 @@ room c =
 first-word : (c : tie.Then1 Inv-loop μ-loop) →
     let h = c .before .before .before in
     let a = h .before .before .before .before .args in
-    let n = h .before .before .points-of .result in
+    let n = h .before .before .transform-length .result in
     let row : ℕ = a .rows .word + c .before .before .loop .r * h .before .grid-step .result in
     (row < n) × (row * n + a .columns .word < 64 * 64) × (n ≤ 64)
 first-word c =
@@ -47,12 +47,12 @@ first-word c =
     let l = s .args .layer in
     let row = words-within l (s .args .rows) (s .pre .0 .1) (c .before .before .loop .r) (c .if1 .taken) in
     let high = length-high l (s .pre .0 .0 .shape) in
-    let column : s .args .columns .word < transformLength l = omega (arith, s .pre .0 .2) in
-    rw (h .before .before .points-of .ensures, h .before .grid-step .ensures)
+    let column : s .args .columns .word < transformLength (l .field) = omega (arith, s .pre .0 .2) in
+    rw (h .before .before .transform-length .ensures, h .before .grid-step .ensures)
     (row, omega (arith, digits-lt row column, mul-le-mul {n₂ = 64} {m₂ = 64} high high), high)
 
-points-of-requires : tie.Need-points-of-requires Inv-loop μ-loop
-points-of-requires c κs = search needs
+transform-length-requires : tie.Need-transform-length-requires Inv-loop μ-loop
+transform-length-requires c κs = search needs
 
 grid-step-requires : tie.Need-grid-step-requires Inv-loop μ-loop
 grid-step-requires c κs = search needs
@@ -94,8 +94,8 @@ store-row-requires c κs =
     let l = s .args .layer in
     let loop = turn .before .before .loop in (
       rw (h .offset-of .ensures) (offset-high (l .field) (s .pre .0 .0 .shape .field-high)),
-      omega (arith, room turn, loop .inv .1 .size, s .pre .1 .0 .1),
-      rw (h .offset-of .ensures, h .before .before .points-of .ensures, h .before .grid-step .ensures)
+      omega (arith, room turn, loop .inv .1 .same-length, s .pre .1 .0 .1),
+      rw (h .offset-of .ensures, h .before .before .transform-length .ensures, h .before .grid-step .ensures)
           (row-storable l (s .args .rows) (s .args .columns) (now (s .args .words)) (s .pre .1 .1 .0) (s .pre .0 .1) (s .pre .0 .2)
           (s .pre .1 .1 .1) (loop .r) (turn .if1 .taken)),
     )
@@ -114,7 +114,7 @@ loop-again c =
     let loop = turn .before .before .loop in (
       omega (arith, turn .if1 .taken),
       rows-next (s .args .layer) (s .args .rows) (s .args .columns) (now (s .args .words)) (s .pre .1 .0 .1) (loop .r)
-          (h .offset-of .ensures) (h .before .grid-step .ensures) (rw (h .before .before .points-of .ensures, h .before .grid-step .ensures) refl)
+          (h .offset-of .ensures) (h .before .grid-step .ensures) (rw (h .before .before .transform-length .ensures, h .before .grid-step .ensures) refl)
           (loop .inv .1) (c .before .store-row .ensures),
     )
 
@@ -133,7 +133,7 @@ store-rows-spec =
     (tie.spec
     Inv-loop
     μ-loop
-    points-of-requires
+    transform-length-requires
     grid-step-requires
     offset-of-requires
     loop-holds

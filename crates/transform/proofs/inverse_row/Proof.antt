@@ -12,14 +12,14 @@ use Rattle.transform.proofs.Rows.{ordered-most, inverse-row}
 use Rattle.transform.proofs.inverse_row.Statement.{statement}
 use Rattle.transform.proofs.inverse_row.Tie as tie
 
-levels-of-requires : tie.Need-levels-of-requires
-levels-of-requires c κs = search needs
+halvings-of-requires : tie.Need-halvings-of-requires
+halvings-of-requires c κs = search needs
 
 modulus-of-requires : tie.Need-modulus-of-requires
 modulus-of-requires c κs = search needs
 
 reorder-requires : tie.Need-reorder-requires
-reorder-requires c κs = rw (c .before .before .levels-of .ensures) (c .before .before .before .before .pre .size, omega arith)
+reorder-requires c κs = rw (c .before .before .halvings-of .ensures) (c .before .before .before .before .pre .same-length, omega arith)
 
 bits-of-requires : tie.Need-bits-of-requires
 bits-of-requires c κs = search needs
@@ -32,14 +32,14 @@ mul-inverse c =
 inverse-requires : tie.Need-inverse-requires
 inverse-requires c κs =
     let o = c .before .before .before .before in
-    let levels = o .before .before .before .levels-of .ensures in
+    let halvings = o .before .before .before .halvings-of .ensures in
     let s = o .before .before .before .before .before in
     let t = s .args .field in
     let a = s .pre in
-    let size = o .reorder .kept .0 ∙ a .size in
-    let most = ordered-most a (o .reorder .last .0) size (rw levels at (o .reorder .ensures)) in
+    let size = o .reorder .kept .0 ∙ a .same-length in
+    let most = ordered-most a (o .reorder .last .0) size (rw halvings at (o .reorder .ensures)) in
     rw (c .bits-of .ensures, o .before .before .modulus-of .ensures)
-    (row-bound t (a .field-high), (rw (o .reorder .kept .0) (row-grid t (a .field-high) (a .size)), most))
+    (row-bound t (a .field-high), (rw (o .reorder .kept .0) (row-grid t (a .field-high) (a .same-length)), most))
 
 scale-of-requires : tie.Need-scale-of-requires
 scale-of-requires c κs = search needs
@@ -60,13 +60,13 @@ returns c =
     let f = r .before .before .before .before .before in
     let o = f .before .before .before .before .before in
     let modulus = o .before .before .modulus-of .ensures in
-    let levels = o .before .before .before .levels-of .ensures in
+    let halvings = o .before .before .before .halvings-of .ensures in
     let s = o .before .before .before .before .before in
-    let size = s .pre .size in
+    let size = s .pre .same-length in
     let size-o = o .reorder .kept .0 ∙ size in
     let size-f = f .inverse .kept .0 ∙ size-o in
     inverse-row (s .args .field) (now (s .args .words)) (o .reorder .last .0) (f .inverse .last .0) (r .scale .last .0)
-    size-o size-f (r .scale .kept .0 ∙ size-f) size (rw levels at (o .reorder .ensures))
+    size-o size-f (r .scale .kept .0 ∙ size-f) size (rw halvings at (o .reorder .ensures))
     (rw (f .before .bits-of .ensures, row-passes (s .args .field) (s .pre .field-high) size, pow-one) at (f .inverse .ensures .0))
     (rw (modulus, r .before .scale-of .ensures) at (r .scale .ensures))
 
@@ -74,7 +74,7 @@ pub inverse-row-spec : {M : Type 1} → statement M
 inverse-row-spec =
     tie.close
     (tie.spec
-    levels-of-requires
+    halvings-of-requires
     modulus-of-requires
     reorder-requires
     bits-of-requires

@@ -32,7 +32,7 @@ field-code : (c : tie.After-next) → c .next .result ≡ firstBroken (field-rul
 field-code c = one-rule 2 (c .next .ensures) (c .before .is-inside .ensures)
 
 length-code : (c : tie.After-next2) → c .next2 .result ≡ firstBroken (length-rules (call-1 (c .before .before)))
-length-code c = one-rule 18 (c .next2 .ensures) (ap (eqb _) (c .before .points-of .ensures))
+length-code c = one-rule 18 (c .next2 .ensures) (ap (eqb _) (c .before .transform-length .ensures))
 
 field-high : (c : tie.Else1) → call-1 c .args .field ≤ 5
 field-high c = inside-high 4 5 _ (none-broken (field-rules (call-1 c)) tt (sym (field-code (c .before)) ∙ c .if1 .left) .0)
@@ -49,8 +49,8 @@ returns c =
     let s = c .before .before .before .before in
     first-answers (field-rules s) (length-rules s ++ residue-rules s) (field-code (c .before)) (c .if1 .taken)
 
-points-of-requires : tie.Need-points-of-requires
-points-of-requires c κs = field-high c
+transform-length-requires : tie.Need-transform-length-requires
+transform-length-requires c κs = field-high c
 
 next-requires-2 : tie.Need-next-requires-2
 next-requires-2 c κs = search needs
@@ -88,7 +88,7 @@ transform-code-spec =
     is-inside-requires
     next-requires
     returns
-    points-of-requires
+    transform-length-requires
     next-requires-2
     returns-2
     modulus-of-requires

@@ -12,8 +12,8 @@ use Rattle.transform.proofs.Rows.{row-most, row-filled, forward-row}
 use Rattle.transform.proofs.transform_row.Statement.{statement}
 use Rattle.transform.proofs.transform_row.Tie as tie
 
-levels-of-requires : tie.Need-levels-of-requires
-levels-of-requires c κs = search needs
+halvings-of-requires : tie.Need-halvings-of-requires
+halvings-of-requires c κs = search needs
 
 modulus-of-requires : tie.Need-modulus-of-requires
 modulus-of-requires c κs = search needs
@@ -32,14 +32,14 @@ forward-requires c κs =
     let t = s .args .field in
     let a = s .pre in
     rw (c .bits-of .ensures, c .before .before .modulus-of .ensures)
-    (row-bound t (a .field-high), (row-grid t (a .field-high) (a .size), (row-most a, row-filled a)))
+    (row-bound t (a .field-high), (row-grid t (a .field-high) (a .same-length), (row-most a, row-filled a)))
 
 reorder-requires : tie.Need-reorder-requires
 reorder-requires c κs =
     let f = c .before .before .before in
-    let levels = f .before .before .before .before .levels-of .ensures in
+    let halvings = f .before .before .before .before .halvings-of .ensures in
     let s = f .before .before .before .before .before .before in
-    rw levels (f .forward .kept .0 ∙ s .pre .size, omega arith)
+    rw halvings (f .forward .kept .0 ∙ s .pre .same-length, omega arith)
 
 scale-requires : tie.Need-scale-requires
 scale-requires c κs =
@@ -57,21 +57,21 @@ returns c =
     let f = o .before .before .before .before in
     let bits = f .before .bits-of .ensures in
     let modulus = f .before .before .before .modulus-of .ensures in
-    let levels = f .before .before .before .before .levels-of .ensures in
+    let halvings = f .before .before .before .before .halvings-of .ensures in
     let s = f .before .before .before .before .before .before in
-    let size = s .pre .size in
+    let size = s .pre .same-length in
     let size-f = f .forward .kept .0 ∙ size in
     let size-o = o .reorder .kept .0 ∙ size-f in
     forward-row (s .args .field) (now (s .args .words)) (f .forward .last .0) (o .reorder .last .0) (r .scale .last .0)
     size-f size-o (r .scale .kept .0 ∙ size-o)
-    (rw (bits, row-passes (s .args .field) (s .pre .field-high) size) at (f .forward .ensures .0)) (rw levels at (o .reorder .ensures))
+    (rw (bits, row-passes (s .args .field) (s .pre .field-high) size) at (f .forward .ensures .0)) (rw halvings at (o .reorder .ensures))
     (λ i l. r .scale .ensures i l ∙ ap (λ (m : ℕ). (1 * getD (o .reorder .last .0) i 0) % m) modulus)
 
 pub transform-row-spec : {M : Type 1} → statement M
 transform-row-spec =
     tie.close
     (tie.spec
-    levels-of-requires
+    halvings-of-requires
     modulus-of-requires
     bits-of-requires
     mul-forward

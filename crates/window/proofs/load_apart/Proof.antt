@@ -52,7 +52,7 @@ mul-words-2 : tie.Need-mul-words-2 Inv-loop μ-loop
 mul-words-2 c = omega (arith, inside (c .before .before) .0)
 
 slice-write-words : tie.Need-slice-write-words Inv-loop μ-loop
-slice-write-words c = omega (arith, inside (c .before .before) .0, c .before .before .before .loop .inv .1 .size)
+slice-write-words c = omega (arith, inside (c .before .before) .0, c .before .before .before .loop .inv .1 .same-length)
 
 add-i : tie.Need-add-i Inv-loop μ-loop
 add-i c = search needs

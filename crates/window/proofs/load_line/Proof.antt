@@ -15,8 +15,8 @@ use Rattle.window.proofs.Loads.{loaded-clear, loaded-as}
 use Rattle.window.proofs.load_line.Statement.{statement}
 use Rattle.window.proofs.load_line.Tie as tie
 
-points-of-requires : tie.Need-points-of-requires
-points-of-requires c κs = search needs
+transform-length-requires : tie.Need-transform-length-requires
+transform-length-requires c κs = search needs
 
 has-values-requires : tie.Need-has-values-requires
 has-values-requires c κs = search needs
@@ -94,7 +94,7 @@ load-row-requires : tie.Need-load-row-requires
 load-row-requires c κs =
     let s = c .before .before .before .before .before .before .before .before .before .before .before in
     let r = s .pre .0 .0 in
-    let n = c .before .before .before .before .before .before .before .before .before .points-of .ensures in
+    let n = c .before .before .before .before .before .before .before .before .before .transform-length .ensures in
     let m = c .modulus-of .ensures in
     let fits = s .pre .0 .1 in
     let row = row-of (c .before .before .before .before .before .before) in (
@@ -114,7 +114,7 @@ same-length c = search needs
 returns : tie.Need-returns
 returns c =
     let at = c .before .before .before .before .before .before .before .before .before in
-    let n = at .before .before .before .points-of .ensures in
+    let n = at .before .before .before .transform-length .ensures in
     let loaded = rw (n, c .before .before .before .modulus-of .ensures) at (c .before .before .load-row .ensures) in
     loaded-as {u = row-value at} loaded (λ p l h. (h, line-value at p)) (λ p h. h)
 
@@ -124,14 +124,14 @@ same-length-2 c = search needs
 returns-2 : tie.Need-returns-2
 returns-2 c =
     let e = sym (c .before .before .before .before .before .has-values .ensures) ∙ c .before .before .before .before .if1 .left in
-    let cleared = loaded-clear (rw (c .before .before .before .before .before .before .points-of .ensures) at (c .before .before .clear .ensures)) in
+    let cleared = loaded-clear (rw (c .before .before .before .before .before .before .transform-length .ensures) at (c .before .before .clear .ensures)) in
     loaded-as cleared (λ p l h. ((h .0, omega arith), sym (when-no (spread _ _ _ _) _ (λ t. subst T e t)))) (λ p h. (h .0, omega arith))
 
 pub load-line-spec : {M : Type 1} → statement M
 load-line-spec =
     tie.close
     (tie.spec
-    points-of-requires
+    transform-length-requires
     has-values-requires
     edge-of-requires
     sub-map-row

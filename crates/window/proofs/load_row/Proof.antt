@@ -24,7 +24,7 @@ fits c =
 load-run-requires : tie.Need-load-run-requires
 load-run-requires c κs =
     let s = c .before .before .before .before .before .before .before .before .before in
-    let size = c .before .before .before .clear .ensures .size in
+    let size = c .before .before .before .clear .ensures .same-length in
     ((omega (arith, fits (c .before .before .before .before .before), size, s .pre .0 .0), s .pre .0 .1, s .pre .0 .2), s .pre .1 .1)
 
 add-clear : tie.Need-add-clear
@@ -38,7 +38,7 @@ clear-requires-2 c κs =
     let taken = ran .before .before .before .before .before .before in
     let s = taken .before .before .before .before in (
       omega (arith, fits taken),
-      omega (arith, s .pre .0 .0, ran .load-run .ensures .size, ran .before .before .before .before .clear .ensures .size),
+      omega (arith, s .pre .0 .0, ran .load-run .ensures .same-length, ran .before .before .before .before .clear .ensures .same-length),
     )
 
 clear-requires-3 : tie.Need-clear-requires-3
@@ -48,7 +48,7 @@ load-apart-requires : tie.Need-load-apart-requires
 load-apart-requires c κs =
     let s = c .before .before .before .before .before .before .before .before .before in (
       (s .pre .1 .0 .apart, s .pre .0 .1, s .pre .0 .2),
-      λ i l. (omega (arith, s .pre .1 .0 .ends i l, c .before .before .before .clear3 .ensures .size), s .pre .1 .1 i l),
+      λ i l. (omega (arith, s .pre .1 .0 .ends i l, c .before .before .before .clear3 .ensures .same-length), s .pre .1 .1 i l),
     )
 
 same-length : tie.Need-same-length

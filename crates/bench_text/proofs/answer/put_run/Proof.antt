@@ -54,7 +54,7 @@ put-rows-requires c κs =
     let taken = line .before .before .before in
     let run = taken .before .before .before .before .before in
     let s = run .before .before .before .before .before in
-    (s .pre .0 .0 .columns-low, omega (arith, line-few line, line .put-numbered2 .ensures .size, s .pre .0 .1, s .pre .0 .2, s .pre .1 .1))
+    (s .pre .0 .0 .columns-low, omega (arith, line-few line, line .put-numbered2 .ensures .same-length, s .pre .0 .1, s .pre .0 .2, s .pre .1 .1))
 
 same-length-4 : tie.Need-same-length-4
 same-length-4 c = search needs

@@ -9,7 +9,7 @@ use Rattle.checks.proofs.Tests.{leb-same}
 use Rattle.checks.proofs.planner.has_output.Statement.{statement}
 use Rattle.checks.proofs.planner.has_output.Tie as tie
 
-steps : (c : tie.Else1) → let a = c .before .before .args in (a .size - 1) * a .layer .stride ≤ 2044
+steps : (c : tie.Else1) → let a = c .before .before .args in (a .extent - 1) * a .layer .stride ≤ 2044
 steps c = strides-high _ _ (c .before .before .pre)
 
 mul-result : tie.Need-mul-result
@@ -39,7 +39,7 @@ returns-2 c =
     let a = c .before .before .before .before .before .args in
     let l = a .layer in
     simp (ne-eqb _ _ (c .before .before .before .if1 .left))
-    (leb-same (suc (2 * l .padding)) ((a .size - 1) * l .stride + l .side) 1 (tconvSize (a .size) (l .side) (l .stride) (l .padding))
+    (leb-same (suc (2 * l .padding)) ((a .extent - 1) * l .stride + l .side) 1 (tconvSize (a .extent) (l .side) (l .stride) (l .padding))
     (λ h. omega arith)
     (λ h. omega arith))
 

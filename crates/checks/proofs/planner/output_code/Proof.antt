@@ -30,10 +30,10 @@ outputs : (c : tie.Else1) → let l = start c .args .layer in (hasOutput l (l .h
 outputs c = both-true _ _ (none-broken (output-rules (start c .args .layer)) tt (sym (output-code (c .before)) ∙ c .if1 .left) .0)
 
 height-output : (c : tie.Else1) → let l = start c .args .layer in Outputs l (l .height)
-height-output c = record { extent = height-extent _ (start c .pre); some = outputs c .0 }
+height-output c = record { in-range = height-extent _ (start c .pre); some = outputs c .0 }
 
 width-output : (c : tie.Else1) → let l = start c .args .layer in Outputs l (l .width)
-width-output c = record { extent = width-extent _ (start c .pre); some = outputs c .1 }
+width-output c = record { in-range = width-extent _ (start c .pre); some = outputs c .1 }
 
 has-output-requires : tie.Need-has-output-requires
 has-output-requires c κs = height-extent _ (c .pre)

@@ -36,7 +36,7 @@ finish-tile-requires c κs =
     let loop = c .before .before .before .before .loop in
     let s = c .before .before .before .before .before .before in
     let l = s .args .layer in (
-      (rw (sym (loop .inv .2 .size), sym (loop .inv .3 .size)) at (s .pre .0), omega (arith, s .pre .1)),
+      (rw (sym (loop .inv .2 .same-length), sym (loop .inv .3 .same-length)) at (s .pre .0), omega (arith, s .pre .1)),
       λ kept.
           let (inputs, some, same) = c .before .before .keeps-kernel .ensures kept in
           let only : l .inputs - 1 ≡ 0 = omega arith in (

@@ -3,26 +3,26 @@ use mathlib.Core.Path.{_≡_, ap₂}
 use Prim.Native.Nat.{_+_, _-_, _*_, _%_, _^_}
 use native.Mathlib.Omega.{arith}
 use borrow.Author.Needs.{needs}
-use Rattle.fermat.specs.FieldSizeLaws.{shifted, levels-le, rest-le, bits-high}
+use Rattle.fermat.specs.FieldSizeLaws.{shifted, halvings-le, rest-le, bits-high}
 use Rattle.fermat.proofs.field.scale_of.Statement.{statement}
 use Rattle.fermat.proofs.field.scale_of.Tie as tie
 
 power : (c : tie.After-modulus-of) →
     let t = c .before .before .before .args .field in
-    (1 * 2 ^ (c .before .before .bits-of .result - c .before .levels-of .result)) % 2 ^ 64 ≡ 2 ^ (2 ^ t - (t + 1))
+    (1 * 2 ^ (c .before .before .bits-of .result - c .before .halvings-of .result)) % 2 ^ 64 ≡ 2 ^ (2 ^ t - (t + 1))
 power c =
     let s = c .before .before .before in
     let t = s .args .field in
-    shifted (ap₂ _-_ (c .before .before .bits-of .ensures) (c .before .levels-of .ensures)) (omega (arith, bits-high t (s .pre)))
+    shifted (ap₂ _-_ (c .before .before .bits-of .ensures) (c .before .halvings-of .ensures)) (omega (arith, bits-high t (s .pre)))
 
 bits-of-requires : tie.Need-bits-of-requires
 bits-of-requires c κs = search needs
 
-levels-of-requires : tie.Need-levels-of-requires
-levels-of-requires c κs = search needs
+halvings-of-requires : tie.Need-halvings-of-requires
+halvings-of-requires c κs = search needs
 
 sub-rest : tie.Need-sub-rest
-sub-rest c = omega (arith, levels-le (c .before .before .args .field))
+sub-rest c = omega (arith, halvings-le (c .before .before .args .field))
 
 modulus-of-requires : tie.Need-modulus-of-requires
 modulus-of-requires c κs = search needs
@@ -44,7 +44,7 @@ scale-of-spec =
     tie.close
     (tie.spec
     bits-of-requires
-    levels-of-requires
+    halvings-of-requires
     sub-rest
     modulus-of-requires
     cast-result

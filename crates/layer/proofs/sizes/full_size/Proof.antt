@@ -9,14 +9,14 @@ use Rattle.layer.specs.Shape.{convSize, tconvSize}
 use Rattle.layer.proofs.sizes.full_size.Statement.{statement}
 use Rattle.layer.proofs.sizes.full_size.Tie as tie
 
-conv : (c : tie.Then1) → let a = c .before .before .args in a .layer .side ≤ a .size + 2 * a .layer .padding
+conv : (c : tie.Then1) → let a = c .before .before .args in a .layer .side ≤ a .extent + 2 * a .layer .padding
 conv c = conv-room _ _ (c .before .before .pre) (c .if1 .taken)
 
-tconv : (c : tie.Else1) → let a = c .before .before .args in 2 * a .layer .padding < (a .size - 1) * a .layer .stride + a .layer .side
+tconv : (c : tie.Else1) → let a = c .before .before .args in 2 * a .layer .padding < (a .extent - 1) * a .layer .stride + a .layer .side
 tconv c = tconv-room _ _ (c .before .before .pre) (c .if1 .left)
 
-steps : (c : tie.Else1) → let a = c .before .before .args in (a .size - 1) * a .layer .stride ≤ 2044
-steps c = strides-high _ _ (c .before .before .pre .extent)
+steps : (c : tie.Else1) → let a = c .before .before .args in (a .extent - 1) * a .layer .stride ≤ 2044
+steps c = strides-high _ _ (c .before .before .pre .in-range)
 
 mul-result : tie.Need-mul-result
 mul-result c = search needs
@@ -34,7 +34,7 @@ add-result-2 : tie.Need-add-result-2
 add-result-2 c =
     let s = c .before .before .before .before .before in
     let a = s .args in
-    omega (arith, div-le-self (a .size + 2 * a .layer .padding - a .layer .side) (a .layer .stride), s .pre .extent .shape)
+    omega (arith, div-le-self (a .extent + 2 * a .layer .padding - a .layer .side) (a .layer .stride), s .pre .in-range .shape)
 
 sub-result-2 : tie.Need-sub-result-2
 sub-result-2 c = search needs

@@ -8,13 +8,13 @@ use Rattle.layer.specs.TileSizeLaws.{length-high}
 use Rattle.layer.proofs.sizes.scratch_words.Statement.{statement}
 use Rattle.layer.proofs.sizes.scratch_words.Tie as tie
 
-square : (c : tie.After-points-of) → c .points-of .result * c .points-of .result ≤ 64 * 64
+square : (c : tie.After-transform-length) → c .transform-length .result * c .transform-length .result ≤ 64 * 64
 square c =
-    let high : c .points-of .result ≤ 64 = omega (arith, length-high _ (c .before .pre), c .points-of .ensures) in
+    let high : c .transform-length .result ≤ 64 = omega (arith, length-high _ (c .before .pre), c .transform-length .ensures) in
     mul-le-mul high high
 
-points-of-requires : tie.Need-points-of-requires
-points-of-requires c κs = search needs
+transform-length-requires : tie.Need-transform-length-requires
+transform-length-requires c κs = search needs
 
 mul-result : tie.Need-mul-result
 mul-result c = omega (arith, square c)
@@ -23,7 +23,7 @@ mul-result-2 : tie.Need-mul-result-2
 mul-result-2 c = omega (arith, square c)
 
 returns : tie.Need-returns
-returns c = ap (λ (n : ℕ). 3 * (n * n)) (c .points-of .ensures)
+returns c = ap (λ (n : ℕ). 3 * (n * n)) (c .transform-length .ensures)
 
 pub scratch-words-spec : {M : Type 1} → statement M
-scratch-words-spec = tie.close (tie.spec points-of-requires mul-result mul-result-2 returns)
+scratch-words-spec = tie.close (tie.spec transform-length-requires mul-result mul-result-2 returns)

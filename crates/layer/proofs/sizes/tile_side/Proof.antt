@@ -5,13 +5,13 @@ use Rattle.layer.specs.TileSizeLaws.{length-low}
 use Rattle.layer.proofs.sizes.tile_side.Statement.{statement}
 use Rattle.layer.proofs.sizes.tile_side.Tie as tie
 
-points-of-requires : tie.Need-points-of-requires
-points-of-requires c κs = search needs
+transform-length-requires : tie.Need-transform-length-requires
+transform-length-requires c κs = search needs
 
 sub-result : tie.Need-sub-result
 sub-result c =
     let r = c .before .before .pre in
-    omega (arith, c .before .points-of .ensures, length-low _ r, r .side-high)
+    omega (arith, c .before .transform-length .ensures, length-low _ r, r .side-high)
 
 add-result : tie.Need-add-result
 add-result c = search needs
@@ -20,4 +20,4 @@ returns : tie.Need-returns
 returns c = search needs
 
 pub tile-side-spec : {M : Type 1} → statement M
-tile-side-spec = tie.close (tie.spec points-of-requires sub-result add-result returns)
+tile-side-spec = tie.close (tie.spec transform-length-requires sub-result add-result returns)

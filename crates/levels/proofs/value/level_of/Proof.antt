@@ -25,8 +25,8 @@ fits-small (negsuc n) l = record { sfits = omega arith }
 size-requires : tie.Need-size-requires
 size-requires c κs = search needs
 
-half-small : (c : tie.Start) → c .args .half ≤ 1073741824
-half-small c = omega (arith, c .pre .1, pow-mono (c .pre .0))
+rounding-small : (c : tie.Start) → c .args .rounding ≤ 1073741824
+rounding-small c = omega (arith, c .pre .1, pow-mono (c .pre .0))
 
 -- the value comes to `size` and to `sign` as its bits
 size-is : (c : tie.After-size) → c .size .result ≡ natAbs (c .before .args .value)
@@ -38,7 +38,7 @@ sign-is c = rw (toZ-ofZ (c .before .before .before .fits .value)) at (c .sign .e
 add-nearest : tie.Need-add-nearest
 add-nearest c =
     let s = c .before in
-    record { fits = omega (arith, half-small s, size-is c, natAbs-le (s .args .value) {H = 2147483648} (s .fits .value .sfits)) }
+    record { fits = omega (arith, rounding-small s, size-is c, natAbs-le (s .args .value) {H = 2147483648} (s .fits .value .sfits)) }
 
 shr-nearest : tie.Need-shr-nearest
 shr-nearest c = search needs
@@ -48,7 +48,7 @@ clamped : (c : tie.Joined1) → let a = c .before .before .args in c .if1 .clamp
 clamped c =
     let s = c .before .before in
     let a = s .args in
-    let quotient : (c .before .size .result + a .half) / 2 ^ a .bits ≡ nearest (a .bits) (natAbs (a .value))
+    let quotient : (c .before .size .result + a .rounding) / 2 ^ a .bits ≡ nearest (a .bits) (natAbs (a .value))
     = rw (size-is (c .before), s .pre .1) (sym (nearest-is (a .bits) (natAbs (a .value)))) in
     ⊎-elim (λ w. w .1 ∙ omega (arith, quotient, w .0 .taken)) (λ w. w .1 ∙ omega (arith, quotient, w .0 .left)) (c .if1 .came)
 

@@ -4,7 +4,7 @@ use Prim.Native.Nat.{ℕ, _+_, _-_, _≤_}
 use lib.ListN.{length, getD, length-set}
 use denote.Ref.{now}
 use Rattle.algebra.specs.Places.{Run}
-use Rattle.passes.specs.Butterfly.{Made, Paired}
+use Rattle.passes.specs.Butterfly.{StepMakes, Paired}
 use Rattle.passes.proofs.Pairs.{paired-nothing, paired-longer}
 use native.Mathlib.Omega.{arith}
 use borrow.Author.Needs.{needs}
@@ -13,7 +13,7 @@ use Rattle.passes.proofs.butterfly.butterflies.Tie as tie
 
 abbrev Inv-loop : tie.InvT-loop
 Inv-loop words₀ at half lanes step t bits bound k₀ words k =
-    (k ≤ lanes) × (length words ≡ length words₀) × Paired (λ _. Made step bits bound t) (Run at k) half words₀ words
+    (k ≤ lanes) × (length words ≡ length words₀) × Paired (λ _. StepMakes step bits bound t) (Run at k) half words₀ words
 
 abbrev μ-loop : tie.MeasureT-loop
 μ-loop words₀ at half lanes step t bits bound k₀ words k = lanes - k
@@ -33,7 +33,7 @@ small c =
 loop-holds : tie.Need-loop-holds Inv-loop μ-loop
 loop-holds c =
     let a = c .before .args in
-    (omega arith, refl, paired-nothing (λ _. Made (a .step) (a .bits) (a .bound) (a .t)) (a .half) (now (a .words)) (λ i h. omega arith))
+    (omega arith, refl, paired-nothing (λ _. StepMakes (a .step) (a .bits) (a .bound) (a .t)) (a .half) (now (a .words)) (λ i h. omega arith))
 
 add-p : tie.Need-add-p Inv-loop μ-loop
 add-p c = search needs
@@ -85,7 +85,7 @@ loop-again c =
     let loop = turn .before .loop in (
       omega (arith, turn),
       simp length-set (loop .inv .1),
-      paired-longer (Made (a .step) (a .bits) (a .bound) (a .t)) (a .at) (loop .k) (a .half) (c .butterfly .result .low) (c .butterfly .result .high)
+      paired-longer (StepMakes (a .step) (a .bits) (a .bound) (a .t)) (a .at) (loop .k) (a .half) (c .butterfly .result .low) (c .butterfly .result .high)
           (now (a .words)) (loop .words) (omega (arith, turn)) (omega (arith, turn, s .pre)) (loop .inv .2) (c .butterfly .ensures),
     )
 

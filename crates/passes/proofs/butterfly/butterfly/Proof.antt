@@ -26,14 +26,14 @@ enum-told-2 c = search needs
 add-t12 : tie.Need-add-t12
 add-t12 c = search needs
 
-add-turned : tie.Need-add-turned
-add-turned c = search needs
+add-times-power : tie.Need-add-times-power
+add-times-power c = search needs
 
-sub-turned : tie.Need-sub-turned
-sub-turned c = search needs
+sub-times-power : tie.Need-sub-times-power
+sub-times-power c = search needs
 
-turned-requires : tie.Need-turned-requires
-turned-requires c κs =
+times-power-requires : tie.Need-times-power-requires
+times-power-requires c κs =
     let s = c .before .before in
     let is : s .args .step ≡ Forward = c .enum-told2 .given .1 in
     (bound-multiple (s .pre .0), (rw is at (s .pre .1 .0), omega arith, s .pre .0 .fits))
@@ -41,29 +41,29 @@ turned-requires c κs =
 enum-told-3 : tie.Need-enum-told-3
 enum-told-3 c = search needs
 
-sub-turned-2 : tie.Need-sub-turned-2
-sub-turned-2 c =
+sub-times-power-2 : tie.Need-sub-times-power-2
+sub-times-power-2 c =
     let s = c .before .before in
     let is : s .args .step ≡ Inverse = c .enum-told3 .given .1 in
     let ready = rw is at (s .pre .1 .0) in
     omega arith
 
-turned-requires-2 : tie.Need-turned-requires-2
-turned-requires-2 c κs =
+times-power-requires-2 : tie.Need-times-power-requires-2
+times-power-requires-2 c κs =
     let s = c .before .before in
     let is : s .args .step ≡ Inverse = c .enum-told3 .given .1 in
     let ready = rw is at (s .pre .1 .0) in
-    (s .pre .0 .half, (omega arith, omega arith, omega arith))
+    (s .pre .0 .halved, (omega arith, omega arith, omega arith))
 
 add-t17 : tie.Need-add-t17
 add-t17 c = search needs
 
--- the second word, turned, is at most the bound
-small : (c : tie.After-turned2) → c .turned2 .result ≤ c .before .before .before .args .bound
+-- the second word times the power is at most the bound
+small : (c : tie.After-times-power2) → c .times-power2 .result ≤ c .before .before .before .args .bound
 small c =
     let s = c .before .before .before in
-    inverse-fits (s .pre .0) (s .args .u) (s .args .v) (s .pre .1 .1) (s .pre .1 .2) (s .args .bits - s .args .t) (c .turned2 .result)
-    (c .turned2 .ensures)
+    inverse-fits (s .pre .0) (s .args .u) (s .args .v) (s .pre .1 .1) (s .pre .1 .2) (s .args .bits - s .args .t) (c .times-power2 .result)
+    (c .times-power2 .ensures)
 
 sub-t18 : tie.Need-sub-t18
 sub-t18 c = omega (arith, small c)
@@ -82,15 +82,15 @@ returns-2 c =
     let s = c .before .before .before in
     let is : s .args .step ≡ Forward = c .before .enum-told2 .given .1 in
     rw is
-    (forward-law (s .pre .0) (s .args .u) (s .args .v) (s .pre .1 .1) (s .pre .1 .2) (s .args .t) (c .turned .result) (c .turned .ensures))
+    (forward-law (s .pre .0) (s .args .u) (s .args .v) (s .pre .1 .1) (s .pre .1 .2) (s .args .t) (c .times-power .result) (c .times-power .ensures))
 
 returns-3 : tie.Need-returns-3
 returns-3 c =
     let s = c .before .before .before in
     let is : s .args .step ≡ Inverse = c .before .enum-told3 .given .1 in
     rw is
-    (inverse-law (s .pre .0) (s .args .u) (s .args .v) (s .pre .1 .1) (s .pre .1 .2) (s .args .bits - s .args .t) (c .turned2 .result)
-    (c .turned2 .ensures))
+    (inverse-law (s .pre .0) (s .args .u) (s .args .v) (s .pre .1 .1) (s .pre .1 .2) (s .args .bits - s .args .t) (c .times-power2 .result)
+    (c .times-power2 .ensures))
 
 pub butterfly-spec : {M : Type 1} → statement M
 butterfly-spec =
@@ -102,12 +102,12 @@ butterfly-spec =
     sub-t11
     enum-told-2
     add-t12
-    add-turned
-    sub-turned
-    turned-requires
+    add-times-power
+    sub-times-power
+    times-power-requires
     enum-told-3
-    sub-turned-2
-    turned-requires-2
+    sub-times-power-2
+    times-power-requires-2
     add-t17
     sub-t18
     add-t19

@@ -66,7 +66,7 @@ add-at : tie.Need-add-at Inv-loop μ-loop
 add-at c = omega (arith, within (c .before .before .before .before))
 
 add-t : tie.Need-add-t Inv-loop μ-loop
-add-t c = omega (arith, within (c .before .before .before .before), c .before .before .before .before .before .before .before .pre .0 .half)
+add-t c = omega (arith, within (c .before .before .before .before), c .before .before .before .before .before .before .before .pre .0 .halved)
 
 loop-less : tie.Need-loop-less Inv-loop μ-loop
 loop-less c = search needs
@@ -94,7 +94,7 @@ butterflies-requires-2 c κs =
     let row = part-ends 0 (a .rows) (a .lanes) (s .pre .1 .0 .some) in (
       s .pre .0,
       (
-        (loop .inv .4 ∙ s .pre .1 .0 .whole, omega (arith, row, s .pre .1 .0 .inside), s .pre .0 .half .bits-low),
+        (loop .inv .4 ∙ s .pre .1 .0 .whole, omega (arith, row, s .pre .1 .0 .inside), s .pre .0 .halved .bits-low),
         pairs-lent (a .bound) (a .half) (now (a .words)) (loop .words) (s .pre .1 .0 .whole) (s .pre .1 .1) (loop .inv .5)
             (λ i q. omega (arith, row, q, s .pre .1 .0 .inside)) (λ i q p. omega arith),
       ),

@@ -13,15 +13,15 @@ use Rattle.passes.proofs.order.reorder.Statement.{statement}
 use Rattle.passes.proofs.order.reorder.Tie as tie
 
 abbrev Inv-loop : tie.InvT-loop
-Inv-loop words₀ levels k₀ words k = (k ≤ length words₀) × Exchanged (reversed levels) 0 k words₀ words
+Inv-loop words₀ halvings k₀ words k = (k ≤ length words₀) × Exchanged (reversed halvings) 0 k words₀ words
 
 abbrev μ-loop : tie.MeasureT-loop
-μ-loop words₀ levels k₀ words k = length words₀ - k
+μ-loop words₀ halvings k₀ words k = length words₀ - k
 
 loop-holds : tie.Need-loop-holds Inv-loop μ-loop
 loop-holds c =
     let s = c .before in
-    (omega arith, exchange-none (reversed-involution (s .args .levels)) (s .pre .0) (λ k above below. absurd (omega arith)))
+    (omega arith, exchange-none (reversed-involution (s .args .halvings)) (s .pre .0) (λ k above below. absurd (omega arith)))
 
 reverse-requires : tie.Need-reverse-requires Inv-loop μ-loop
 reverse-requires c κs = search needs
@@ -29,8 +29,8 @@ reverse-requires c κs = search needs
 swap-requires : tie.Need-swap-requires Inv-loop μ-loop
 swap-requires c κs =
     let turn = c .before .before .before in
-    let levels = turn .before .before .before .args .levels in
-    (search needs, omega (arith, reversed-lt levels (turn .before .loop .k) (omega arith)))
+    let halvings = turn .before .before .before .args .halvings in
+    (search needs, omega (arith, reversed-lt halvings (turn .before .loop .k) (omega arith)))
 
 add-k : tie.Need-add-k Inv-loop μ-loop
 add-k c = search needs
@@ -43,7 +43,7 @@ loop-again c =
     let called = c .before in
     let s = called .before .before .before .before in
     let L = called .before .before .loop in
-    let i = reversed-involution (s .args .levels) in
+    let i = reversed-involution (s .args .halvings) in
     let e = sym (called .reverse .ensures) in (
       omega arith,
       ⊎-elim
@@ -56,7 +56,7 @@ same-length : tie.Need-same-length Inv-loop μ-loop
 same-length c = search needs
 
 returns : tie.Need-returns Inv-loop μ-loop
-returns c = exchange-all (reversed (c .before .before .before .args .levels)) (omega arith) (c .before .loop .inv .1)
+returns c = exchange-all (reversed (c .before .before .before .args .halvings)) (omega arith) (c .before .loop .inv .1)
 
 pub reorder-spec : {M : Type 1} → statement M
 reorder-spec =

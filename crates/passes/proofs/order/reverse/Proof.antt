@@ -12,10 +12,10 @@ use Rattle.passes.proofs.order.reverse.Statement.{statement}
 use Rattle.passes.proofs.order.reverse.Tie as tie
 
 abbrev Inv-loop : tie.InvT-loop
-Inv-loop k levels r₀ q₀ t₀ r q t = reversed levels k ≡ r * 2 ^ t + reversed t q
+Inv-loop k halvings r₀ q₀ t₀ r q t = reversed halvings k ≡ r * 2 ^ t + reversed t q
 
 abbrev μ-loop : tie.MeasureT-loop
-μ-loop k levels r₀ q₀ t₀ r q t = t
+μ-loop k halvings r₀ q₀ t₀ r q t = t
 
 -- the lowest bit of q goes over to r
 over : (t r q : ℕ) → 0 < t → r * 2 ^ t + reversed t q ≡ (2 * r + q % 2) * 2 ^ (t - 1) + reversed (t - 1) (q / 2)
@@ -34,10 +34,10 @@ none (suc t) r q l = absurd (omega arith)
 small : (c : tie.In-loop Inv-loop μ-loop) → c .before .loop .r < 64
 small c =
     let s = c .before .before in
-    let levels = s .args .levels in
+    let halvings = s .args .halvings in
     let L = c .before .loop in
     let le : L .r * 1 ≤ L .r * 2 ^ L .t = mul-le-mul-left (L .r) (pow-pos (L .t)) in
-    omega (arith, reversed-lt levels (s .args .k) (s .pre .0), pow-mono {i = levels} {j = 6} (s .pre .1))
+    omega (arith, reversed-lt halvings (s .args .k) (s .pre .0), pow-mono {i = halvings} {j = 6} (s .pre .1))
 
 loop-holds : tie.Need-loop-holds Inv-loop μ-loop
 loop-holds c = omega arith

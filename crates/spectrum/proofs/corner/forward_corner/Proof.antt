@@ -67,7 +67,7 @@ module _ (c : tie.After-widen) where
       let a = start .args in
       let kept = first .forward .kept .0 in
       let whole = same-len-mid (a .n * a .n) (a .n * a .n + a .n * a .k - a .n * a .n) (now (a .words)) ys kept in
-      record { kept = kept; whole = c .widen .kept .0 ∙ whole; turned = c .widen .ensures }
+      record { kept = kept; whole = c .widen .kept .0 ∙ whole; widened = c .widen .ensures }
 
 widen-requires : tie.Need-widen-requires
 widen-requires c κs = search needs
@@ -90,7 +90,7 @@ forward-requires-2 c κs =
     let s = start w in
     let p = transforms (s .pre .0) (s .pre .1 .0) in
     let corner = s .pre .1 .1 in
-    let most = wide-most corner (lent s) (wide w) (s .args .bound * 2 ^ s .args .levels) (rw (p .count) at (first w .forward .ensures .1)) in
+    let most = wide-most corner (lent s) (wide w) (s .args .bound * 2 ^ s .args .halvings) (rw (p .count) at (first w .forward .ensures .1)) in
     rw (p .shl) (p .bound, (rw (wide-length corner (lent s) (wide w)) (p .second), (most, wide-filled corner (lent s) (wide w))))
 
 same-length : tie.Need-same-length
@@ -108,10 +108,10 @@ returns c =
     let p = transforms (s .pre .0) (s .pre .1 .0) in
     let size = last .forward2 .kept .0 ∙ wide-length (s .pre .1 .1) (lent s) (wide w) in
     let tile =
-    corner-forward (s .pre .1 .1) (lent s) (wide w) (2 ^ a .bits + 1) 2 (a .levels) zs side
+    corner-forward (s .pre .1 .1) (lent s) (wide w) (2 ^ a .bits + 1) 2 (a .halvings) zs side
     (rw (p .count) at (first w .forward .ensures .0)) (rw (p .count) at (last .forward2 .ensures .0)) in (
       front-forward (a .n) zs rest size side tile,
-      front-most (a .n) zs rest size (a .bound * 2 ^ a .levels * 2 ^ a .levels) (rw (p .count, p .shl) at (last .forward2 .ensures .1)),
+      front-most (a .n) zs rest size (a .bound * 2 ^ a .halvings * 2 ^ a .halvings) (rw (p .count, p .shl) at (last .forward2 .ensures .1)),
     )
 
 pub forward-corner-spec : {M : Type 1} → statement M

@@ -5,14 +5,14 @@ use native.Mathlib.Nat.{mul-le-mul-right}
 use native.Mathlib.Omega.{arith}
 use Rattle.algebra.specs.Places.{Written, Run}
 use Rattle.algebra.specs.PlacesLaws.{written-nothing}
-use Rattle.spectrum.specs.Corner.{turnedWord}
+use Rattle.spectrum.specs.Corner.{transposedWord}
 use Rattle.spectrum.proofs.Widening.{widen-next, widened}
 use borrow.Author.Needs.{needs}
 use Rattle.spectrum.proofs.corner.widen.Statement.{statement}
 use Rattle.spectrum.proofs.corner.widen.Tie as tie
 
 abbrev Inv-loop : tie.InvT-loop
-Inv-loop words₀ n k r₀ words r = (r ≤ k) × Written 0 (Run 0 (r * n)) (turnedWord n k words₀) words₀ words
+Inv-loop words₀ n k r₀ words r = (r ≤ k) × Written 0 (Run 0 (r * n)) (transposedWord n k words₀) words₀ words
 
 abbrev μ-loop : tie.MeasureT-loop
 μ-loop words₀ n k r₀ words r = k - r
@@ -47,7 +47,7 @@ mul-clear-2 : tie.Need-mul-clear-2 Inv-loop μ-loop
 mul-clear-2 c = search needs
 
 clear-requires : tie.Need-clear-requires Inv-loop μ-loop
-clear-requires c κs = (inside (c .before), omega (arith, c .before .before .loop .inv .1 .size))
+clear-requires c κs = (inside (c .before), omega (arith, c .before .before .loop .inv .1 .same-length))
 
 same-length : tie.Need-same-length Inv-loop μ-loop
 same-length c = search needs

@@ -6,7 +6,7 @@ use native.Mathlib.Omega.{arith}
 use Rattle.algebra.specs.Places.{Written, Run}
 use Rattle.algebra.specs.PlacesLaws.{written-nothing}
 use Rattle.passes.specs.OrderLaws.{place-lt}
-use Rattle.spectrum.specs.Corner.{turnedWord}
+use Rattle.spectrum.specs.Corner.{transposedWord}
 use Rattle.spectrum.proofs.Widening.{narrow-le, widen-step}
 use borrow.Author.Needs.{needs}
 use Rattle.spectrum.proofs.corner.widen_row.Statement.{statement}
@@ -14,7 +14,7 @@ use Rattle.spectrum.proofs.corner.widen_row.Tie as tie
 
 abbrev Inv-loop : tie.InvT-loop
 Inv-loop words₀ n k r first from₀ c₀ words from c =
-    (c ≤ n) × (from ≡ n * n + (c * k + r)) × Written 0 (Run (r * n) c) (turnedWord n k words₀) words₀ words
+    (c ≤ n) × (from ≡ n * n + (c * k + r)) × Written 0 (Run (r * n) c) (transposedWord n k words₀) words₀ words
 
 abbrev μ-loop : tie.MeasureT-loop
 μ-loop words₀ n k r first from₀ c₀ words from c = n - c

@@ -26,8 +26,8 @@ module _ (c : tie.After-transform-lanes-arg2) where
   abbrev first : tie.After-transform-lanes
   first = c .before .before .before .before .before .before .before
 
-  abbrev turned : tie.After-transpose
-  turned = c .before .before .before
+  abbrev swapped : tie.After-transpose
+  swapped = c .before .before .before
 
   abbrev start : tie.Start
   start = first .before .before .before
@@ -36,13 +36,13 @@ module _ (c : tie.After-transform-lanes-arg2) where
   ys = first .transform-lanes .last .0
 
   abbrev ts : List ℕ
-  ts = turned .transpose .last .0
+  ts = swapped .transpose .last .0
 
   columns-length : length ys ≡ start .args .n * start .args .n
   columns-length = first .transform-lanes .kept .0 ∙ start .pre .1 .0 .whole
 
   rows-length : length ts ≡ length ys
-  rows-length = turned .transpose .kept .0
+  rows-length = swapped .transpose .kept .0
 
 transform-lanes-requires-2 : tie.Need-transform-lanes-requires-2
 transform-lanes-requires-2 c κs =
@@ -51,7 +51,7 @@ transform-lanes-requires-2 c κs =
     let p = transforms (s .pre .0) (s .pre .1 .0) in
     let whole : length (ts c) ≡ length (now (a .words)) = rows-length c ∙ columns-length c ∙ sym (s .pre .1 .0 .whole) in
     let most =
-    transposed-most (a .n) (a .bound * 2 ^ a .levels) (ys c) (ts c) (columns-length c) (rows-length c) (turned c .transpose .ensures)
+    transposed-most (a .n) (a .bound * 2 ^ a .halvings) (ys c) (ts c) (columns-length c) (rows-length c) (swapped c .transpose .ensures)
     (rw (p .count) at (first c .transform-lanes .ensures .1)) in
     rw (p .shl) (p .bound, (rw whole (p .second), (most, none-pruned (a .direction) (a .n) (ts c) (p .some) (rows-length c ∙ columns-length c))))
 
@@ -65,8 +65,8 @@ returns c =
     let s = start b in
     let a = s .args in
     let p = transforms (s .pre .0) (s .pre .1 .0) in (
-      tile-transformed (a .direction) (a .bits) (a .levels) (a .n) (now (a .words)) (ys b) (ts b) (last .transform-lanes2 .last .0) (s .pre .1 .0 .side)
-          (columns-length b) (turned b .transpose .ensures)
+      tile-transformed (a .direction) (a .bits) (a .halvings) (a .n) (now (a .words)) (ys b) (ts b) (last .transform-lanes2 .last .0) (s .pre .1 .0 .side)
+          (columns-length b) (swapped b .transpose .ensures)
           (rw (p .count) at (first b .transform-lanes .ensures .0)) (rw (p .count) at (last .transform-lanes2 .ensures .0)),
       rw (p .count, p .shl) at (last .transform-lanes2 .ensures .1),
     )

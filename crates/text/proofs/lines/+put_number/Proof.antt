@@ -57,7 +57,7 @@ module _ (t : ℕ) where
         (c .if1 .came)
 
     room : c .if1 .last < length (c .if1 .lines)
-    room = omega (arith, before-last .size, before-last .ends, c .before .before .pre .1, long (c .before .before .args .n))
+    room = omega (arith, before-last .same-length, before-last .ends, c .before .before .pre .1, long (c .before .before .args .n))
 
     all :
         let a = c .before .before .args in
@@ -68,10 +68,10 @@ module _ (t : ℕ) where
   slice-write-lines c = room c
 
   add-result : put-number-lts.Need-add-result (calls t) (put-number-at t) put-number.Post
-  add-result c = omega (arith, room (c .before), before-last (c .before) .size)
+  add-result c = omega (arith, room (c .before), before-last (c .before) .same-length)
 
   same-length : put-number-lts.Need-same-length (calls t) (put-number-at t) put-number.Post
-  same-length c = all (c .before) .size
+  same-length c = all (c .before) .same-length
 
   returns : put-number-lts.Need-returns (calls t) (put-number-at t) put-number.Post
   returns c = all (c .before)

@@ -22,7 +22,7 @@ valued c = rw (toZ-ofZ (c .before .before .before .fits .value)) at (c .put-valu
 room : (c : tie.After-put-value) → c .put-value .result + 1 ≤ length (c .put-value .last .0)
 room c =
     let s = c .before .before .before in
-    omega (arith, s .pre, valued c .size, valued c .ends, signed-few (s .args .value) (s .fits .value))
+    omega (arith, s .pre, valued c .same-length, valued c .ends, signed-few (s .args .value) (s .fits .value))
 
 put-value-requires : tie.Need-put-value-requires
 put-value-requires c κs = search needs

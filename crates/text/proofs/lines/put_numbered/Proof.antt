@@ -19,7 +19,7 @@ room c =
     let s = w .before .before .before .before in
     let p = w .put-bytes .ensures in
     let q = c .put-bytes2 .ensures in
-    omega (arith, s .pre, p .size, p .ends, q .size, q .ends, decimal-few (s .args .n) 20 (omega arith) (omega (arith, s .fits .n)))
+    omega (arith, s .pre, p .same-length, p .ends, q .same-length, q .ends, decimal-few (s .args .n) 20 (omega arith) (omega (arith, s .fits .n)))
 
 put-bytes-requires : tie.Need-put-bytes-requires
 put-bytes-requires c κs = search needs
@@ -40,7 +40,7 @@ put-bytes-requires-3 : tie.Need-put-bytes-requires-3
 put-bytes-requires-3 c κs =
     let n = c .before .before .before .before in
     let p = n .put-number .ensures in
-    omega (arith, room (n .before .before .before .before), p .size, p .ends)
+    omega (arith, room (n .before .before .before .before), p .same-length, p .ends)
 
 same-length : tie.Need-same-length
 same-length c = search needs

@@ -43,7 +43,7 @@ rem-put-entry c = search needs
 put-entry-requires : tie.Need-put-entry-requires Inv-loop μ-loop
 put-entry-requires c κs =
     let s = c .before .before .before in
-    omega (arith, s .loop .inv .2 .size, s .before .before .pre .1)
+    omega (arith, s .loop .inv .2 .same-length, s .before .before .pre .1)
 
 loop-less : tie.Need-loop-less Inv-loop μ-loop
 loop-less c = search needs
@@ -74,7 +74,7 @@ loop-again c =
     (omega arith, omega (arith, entry-few put, s .loop .inv .1), rw (add-one (s .loop .i)) (append-two (s .loop .inv .2) (entered put)))
 
 same-length : tie.Need-same-length Inv-loop μ-loop
-same-length c = c .before .loop .inv .2 .size
+same-length c = c .before .loop .inv .2 .same-length
 
 returns : tie.Need-returns Inv-loop μ-loop
 returns c =

@@ -45,7 +45,7 @@ put-number-requires : tie.Need-put-number-requires
 put-number-requires c κs =
     let j = c .before .before in
     let s = j .before .before in
-    rw (sized c) (omega (arith, s .pre, signed j .size, signed j .ends, sign-long (s .args .value), size-few (s .args .value) (s .fits .value)))
+    rw (sized c) (omega (arith, s .pre, signed j .same-length, signed j .ends, sign-long (s .args .value), size-few (s .args .value) (s .fits .value)))
 
 -- the sign and the size stand in the buffer
 all : (c : tie.After-put-number) →
@@ -56,7 +56,7 @@ all c =
     rw (sign-size (j .before .before .args .value)) (append-two (signed j) (rw (sized (c .before)) at (c .put-number .ensures)))
 
 same-length : tie.Need-same-length
-same-length c = all (c .before .before) .size
+same-length c = all (c .before .before) .same-length
 
 returns : tie.Need-returns
 returns c = all (c .before .before)

@@ -46,19 +46,19 @@ cast-t13 : tie.Need-cast-t13
 cast-t13 c = search needs
 
 -- the size taken from 0
-turned : (c : tie.Else3) → pos 0 -ℤ toZ w32 (c .before .whole-number .result) ≡ negℤ (pos (c .before .whole-number .result))
-turned c = rw (toZ-pos w32 {n = c .before .whole-number .result} (omega arith)) (+ℤ-idl _)
+opposite : (c : tie.Else3) → pos 0 -ℤ toZ w32 (c .before .whole-number .result) ≡ negℤ (pos (c .before .whole-number .result))
+opposite c = rw (toZ-pos w32 {n = c .before .whole-number .result} (omega arith)) (+ℤ-idl _)
 
 sub-t14 : tie.Need-sub-t14
-sub-t14 c = rw (turned c) (sfits-widen {w = w16} tt (minus-fits _ (c .if3 .left)))
+sub-t14 c = rw (opposite c) (sfits-widen {w = w16} tt (minus-fits _ (c .if3 .left)))
 
 cast-t15 : tie.Need-cast-t15
-cast-t15 c = rw (turned c, toZ-ofZ (sfits-widen {w = w16} {w′ = w32} tt (minus-fits _ (c .if3 .left)))) (minus-fits _ (c .if3 .left))
+cast-t15 c = rw (opposite c, toZ-ofZ (sfits-widen {w = w16} {w′ = w32} tt (minus-fits _ (c .if3 .left)))) (minus-fits _ (c .if3 .left))
 
 returns-3 : tie.Need-returns-3
 returns-3 c =
     let fits = minus-fits (c .before .whole-number .result) (c .if3 .left) in
-    rw (turned c, toZ-ofZ (sfits-widen {w = w16} {w′ = w32} tt fits), toZ-ofZ fits, size (c .before))
+    rw (opposite c, toZ-ofZ (sfits-widen {w = w16} {w′ = w32} tt fits), toZ-ofZ fits, size (c .before))
     (minus-read _ (omega arith) (c .before .before .before .if2 .taken) (rw (size (c .before)) at (c .if3 .left)))
 
 whole-number-requires-2 : tie.Need-whole-number-requires-2

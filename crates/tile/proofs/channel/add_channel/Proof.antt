@@ -19,26 +19,26 @@ use Rattle.tile.proofs.channel.add_channel.Statement.{statement}
 use Rattle.tile.proofs.channel.add_channel.Tie as tie
 
 -- the sizes
-module _ (c : tie.After-points-of) where
+module _ (c : tie.After-transform-length) where
   abbrev start : tie.Start
   start = c .before .before
 
   abbrev n : ℕ
-  n = c .points-of .result
+  n = c .transform-length .result
 
   area-is : n * n ≡ area (start .args .layer)
-  area-is = ap (λ (i : ℕ). i * i) (c .points-of .ensures)
+  area-is = ap (λ (i : ℕ). i * i) (c .transform-length .ensures)
 
   area-high : n * n ≤ 4096
   area-high =
-      let most : n ≤ 64 = omega (arith, c .points-of .ensures, length-high (start .args .layer) (start .pre .0 .0 .plan .shape)) in
+      let most : n ≤ 64 = omega (arith, c .transform-length .ensures, length-high (start .args .layer) (start .pre .0 .0 .plan .shape)) in
       mul-le-mul most most
 
   room : 3 * (n * n) ≤ length (now (start .args .scratch))
   room = omega (arith, area-is, start .pre .0 .0 .scratch-low)
 
-points-of-requires : tie.Need-points-of-requires
-points-of-requires c κs = search needs
+transform-length-requires : tie.Need-transform-length-requires
+transform-length-requires c κs = search needs
 
 mul-area : tie.Need-mul-area
 mul-area c = omega (arith, area-high c)
@@ -95,7 +95,7 @@ part-ready-kernel-end c = omega (arith, room (c .before .before .before))
 part-length : (a k : ℕ) (xs : List ℕ) → a + k ≤ length xs → length (midOf a k xs) ≡ k
 part-length a k xs le = length-take-le k (drop a xs) (omega (arith, length-drop a xs))
 
-kernel-part : (c : tie.After-points-of)
+kernel-part : (c : tie.After-transform-length)
     → length (midOf (n c * n c) (3 * (n c * n c) - n c * n c) (now (start c .args .scratch))) ≡ 2 * area (start c .args .layer)
 kernel-part c =
     part-length (n c * n c) (3 * (n c * n c) - n c * n c) (now (start c .args .scratch)) (omega (arith, room c)) ∙ omega (arith, area-is c)
@@ -116,7 +116,7 @@ ready-kernel-requires c κs =
 
 -- and comes back
 module _ (c : tie.After-ready-kernel) where
-  abbrev sizes : tie.After-points-of
+  abbrev sizes : tie.After-transform-length
   sizes = c .before .before .before .before .before
 
   abbrev ks : List ℕ
@@ -217,7 +217,7 @@ pub add-channel-spec : {M : Type 1} → statement M
 add-channel-spec =
     tie.close
     (tie.spec
-    points-of-requires
+    transform-length-requires
     mul-area
     mul-window
     mul-end

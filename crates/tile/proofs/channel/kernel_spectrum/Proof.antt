@@ -8,22 +8,22 @@ use Rattle.tile.proofs.channel.kernel_spectrum.Statement.{statement}
 use Rattle.tile.proofs.channel.kernel_spectrum.Tie as tie
 
 -- the part that is lent
-module _ (c : tie.After-points-of) where
+module _ (c : tie.After-transform-length) where
   abbrev start : tie.Start
   start = c .before .before
 
-  part : let n = c .points-of .result in
+  part : let n = c .transform-length .result in
       let k = start .args .layer .side in
       Part (start .args .layer) n (n * n + n * k - n * n) (now (start .args .words))
   part = record {
     range = start .pre .0 .0;
-    side = c .points-of .ensures;
+    side = c .transform-length .ensures;
     count = omega arith;
     whole = start .pre .0 .1;
   }
 
-points-of-requires : tie.Need-points-of-requires
-points-of-requires c κs = search needs
+transform-length-requires : tie.Need-transform-length-requires
+transform-length-requires c κs = search needs
 
 mul-from : tie.Need-mul-from
 mul-from c = omega (arith, area-high (part c))
@@ -75,7 +75,7 @@ pub kernel-spectrum-spec : {M : Type 1} → statement M
 kernel-spectrum-spec =
     tie.close
     (tie.spec
-    points-of-requires
+    transform-length-requires
     mul-from
     mul-to
     add-to

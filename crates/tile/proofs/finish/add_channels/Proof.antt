@@ -41,7 +41,7 @@ add-channel-requires c κs =
           plan = lent .plan;
           map-length = lent .map-length;
           kernel-length = lent .kernel-length;
-          scratch-low = omega (arith, sum .changed .size, lent .scratch-low);
+          scratch-low = omega (arith, sum .changed .same-length, lent .scratch-low);
         },
         s .pre .0 .1,
         omega arith,

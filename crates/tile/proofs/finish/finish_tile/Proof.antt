@@ -28,26 +28,26 @@ plan : (s : tie.Start) → Planned (s .args .layer)
 plan s = s .pre .0 .0 .plan
 
 -- the sizes
-module _ (c : tie.After-points-of) where
+module _ (c : tie.After-transform-length) where
   abbrev start : tie.Start
   start = c .before .before
 
   abbrev part : ℕ
-  part = c .points-of .result * c .points-of .result
+  part = c .transform-length .result * c .transform-length .result
 
   area-is : part ≡ area (start .args .layer)
-  area-is = ap (λ (i : ℕ). i * i) (c .points-of .ensures)
+  area-is = ap (λ (i : ℕ). i * i) (c .transform-length .ensures)
 
   area-high : part ≤ 4096
   area-high =
-      let most : c .points-of .result ≤ 64 = omega (arith, c .points-of .ensures, length-high (start .args .layer) (plan start .shape)) in
+      let most : c .transform-length .result ≤ 64 = omega (arith, c .transform-length .ensures, length-high (start .args .layer) (plan start .shape)) in
       mul-le-mul most most
 
   room : 3 * part ≤ length (now (start .args .scratch))
   room = omega (arith, area-is, start .pre .0 .0 .scratch-low)
 
-points-of-requires : tie.Need-points-of-requires
-points-of-requires c κs = plan (c .before) .shape .field-high
+transform-length-requires : tie.Need-transform-length-requires
+transform-length-requires c κs = plan (c .before) .shape .field-high
 
 mul-area : tie.Need-mul-area
 mul-area c = omega (arith, area-high c)
@@ -70,7 +70,7 @@ add-channels-requires c κs =
           plan = plan s;
           map-length = s .pre .0 .0 .map-length;
           kernel-length = s .pre .0 .0 .kernel-length;
-          scratch-low = omega (arith, none .size, s .pre .0 .0 .scratch-low);
+          scratch-low = omega (arith, none .same-length, s .pre .0 .0 .scratch-low);
         },
         origin .origin-of .ensures .1,
       ),
@@ -85,7 +85,7 @@ add-channels-requires c κs =
 
 -- scratch with the sum over all map channels
 module _ (c : tie.After-add-channels) where
-  abbrev sizes : tie.After-points-of
+  abbrev sizes : tie.After-transform-length
   sizes = c .before .before .before .before .before .before .before
 
   abbrev given : tie.Start
@@ -101,7 +101,7 @@ module _ (c : tie.After-add-channels) where
   lent = take (part sizes - 0) ys
 
   length-is : length ys ≡ length (now (given .args .scratch))
-  length-is = c .add-channels .ensures .0 .changed .size ∙ cleared .clear .ensures .size
+  length-is = c .add-channels .ensures .0 .changed .same-length ∙ cleared .clear .ensures .same-length
 
   lent-le : part sizes - 0 ≤ length ys
   lent-le = omega (arith, length-is, room sizes)
@@ -193,7 +193,7 @@ pub finish-tile-spec : {M : Type 1} → statement M
 finish-tile-spec =
     tie.close
     (tie.spec
-    points-of-requires
+    transform-length-requires
     mul-area
     origin-of-requires
     clear-requires

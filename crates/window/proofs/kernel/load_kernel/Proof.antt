@@ -68,10 +68,10 @@ loaded c =
     (c .if1 .came)
 
 clear-requires : tie.Need-clear-requires
-clear-requires c κs = (omega (arith, loaded (c .before) .size, rooms (c .before .before .before) .0), omega arith)
+clear-requires c κs = (omega (arith, loaded (c .before) .same-length, rooms (c .before .before .before) .0), omega arith)
 
 same-length : tie.Need-same-length
-same-length c = c .before .before .clear .ensures .size ∙ loaded (c .before .before .before .before) .size
+same-length c = c .before .before .clear .ensures .same-length ∙ loaded (c .before .before .before .before) .same-length
 
 returns : tie.Need-returns
 returns c =

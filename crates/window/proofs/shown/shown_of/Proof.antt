@@ -56,13 +56,13 @@ add-begin c = omega (arith, bounds c .0, bounds c .3, c .before .before .before 
 sub-begin : tie.Need-sub-begin
 sub-begin c = bounds c .1
 
-points-of-requires : tie.Need-points-of-requires
-points-of-requires c κs = search needs
+transform-length-requires : tie.Need-transform-length-requires
+transform-length-requires c κs = search needs
 
 sub-ceiling-div : tie.Need-sub-ceiling-div
 sub-ceiling-div c =
     let r = c .before .before .before .before .before .pre .0 in
-    omega (arith, bounds (c .before) .2, c .points-of .ensures, length-low _ r)
+    omega (arith, bounds (c .before) .2, c .transform-length .ensures, length-low _ r)
 
 ceiling-div-requires-2 : tie.Need-ceiling-div-requires-2
 ceiling-div-requires-2 c κs =
@@ -70,7 +70,7 @@ ceiling-div-requires-2 c κs =
     let e = c .before .before .before .before .spacing-of .ensures in
     let r = s .pre .0 in (
       omega (arith, e, spacing-low _ r),
-      omega (arith, e, spacing-high _ r, c .points-of .ensures, length-high _ r),
+      omega (arith, e, spacing-high _ r, c .transform-length .ensures, length-high _ r),
     )
 
 above-requires-2 : tie.Need-above-requires-2
@@ -89,7 +89,7 @@ made c count in-room in-left most =
     let s = at .before .before .before .before in
     let e = at .before .before .before .spacing-of .ensures in
     let f = at .before .before .edge-of .ensures in
-    let room = rw (c .before .before .points-of .ensures, e, f) at (c .before .ceiling-div2 .ensures) in
+    let room = rw (c .before .before .transform-length .ensures, e, f) at (c .before .ceiling-div2 .ensures) in
     let left = c .above2 .ensures in
     rw (e, f)
     (shows (s .args .layer) (s .pre .0) (s .args .column) _ _ (first-is at) refl (c .before .ceiling-div2 .result) count (s .pre .1) room in-room
@@ -112,7 +112,7 @@ shown-of-spec =
     mul-begin
     add-begin
     sub-begin
-    points-of-requires
+    transform-length-requires
     sub-ceiling-div
     ceiling-div-requires-2
     above-requires-2

@@ -73,7 +73,7 @@ clear-requires : tie.Need-clear-requires
 clear-requires c κs =
     let tiles = c .before .before .before .before .before in
     let given = called (tiles .before .before .before .before .before) .0 in
-    (omega arith, omega (arith, c .scratch-words .ensures, tiles .finish-tiles .ensures .1 .size, given .scratch-low))
+    (omega arith, omega (arith, c .scratch-words .ensures, tiles .finish-tiles .ensures .1 .same-length, given .scratch-low))
 
 same-length : tie.Need-same-length
 same-length c = search needs

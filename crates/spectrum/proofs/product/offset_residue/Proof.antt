@@ -7,9 +7,9 @@ use borrow.Author.Needs.{needs}
 use lib.Pow.{pow-add, pow-pos, pow-mono, shl-exact}
 use Rattle.algebra.specs.CongruenceLaws.{c-refl, c-add, _⨟_}
 use Rattle.fermat.specs.FieldSizeLaws.{one-shl}
-use Rattle.spectrum.proofs.Finish.{moved-low, moved-high, moved-value, folded-low, folded-high, folded-value, Reduced, reduced}
-use Rattle.spectrum.proofs.product.finished.Statement.{statement}
-use Rattle.spectrum.proofs.product.finished.Tie as tie
+use Rattle.spectrum.proofs.OffsetResidues.{moved-low, moved-high, moved-value, folded-low, folded-high, folded-value, Reduced, reduced}
+use Rattle.spectrum.proofs.product.offset_residue.Statement.{statement}
+use Rattle.spectrum.proofs.product.offset_residue.Tie as tie
 
 module _ (c : tie.Start) where
   abbrev T : ℕ
@@ -153,8 +153,8 @@ returns c =
           ⨟ moved-value (T c) (N c) (S c) (c .args .v) (whole c) (pow-pos (c .args .rest)) (c .pre .bound);
     })
 
-pub finished-spec : {M : Type 1} → statement M
-finished-spec =
+pub offset-residue-spec : {M : Type 1} → statement M
+offset-residue-spec =
     tie.close
     (tie.spec
     shl-top

@@ -3,15 +3,15 @@ use mathlib.Core.Path.{_≡_}
 use Prim.Native.Nat.{_-_, _≤_}
 use lib.ListN.{length}
 use Rattle.algebra.specs.EachWord.{WordsDone, words-none, words-next}
-use Rattle.spectrum.specs.Product.{finishedOf}
-use Rattle.spectrum.proofs.Finish.{field-finishing, field-finished}
+use Rattle.spectrum.specs.Product.{offsetResidue}
+use Rattle.spectrum.proofs.OffsetResidues.{field-reducible, field-residue}
 use native.Mathlib.Omega.{arith}
 use borrow.Author.Needs.{needs}
-use Rattle.spectrum.proofs.product.finish.Statement.{statement}
-use Rattle.spectrum.proofs.product.finish.Tie as tie
+use Rattle.spectrum.proofs.product.offset_residues.Statement.{statement}
+use Rattle.spectrum.proofs.product.offset_residues.Tie as tie
 
 abbrev Inv-loop : tie.InvT-loop
-Inv-loop words₀ field bits rest i₀ words i = (i ≤ length words₀) × WordsDone (λ _ a b. b ≡ finishedOf field a) i words₀ words
+Inv-loop words₀ field bits rest i₀ words i = (i ≤ length words₀) × WordsDone (λ _ a b. b ≡ offsetResidue field a) i words₀ words
 
 abbrev μ-loop : tie.MeasureT-loop
 μ-loop words₀ field bits rest i₀ words i = length words₀ - i
@@ -19,8 +19,8 @@ abbrev μ-loop : tie.MeasureT-loop
 bits-of-requires : tie.Need-bits-of-requires Inv-loop μ-loop
 bits-of-requires c κs = search needs
 
-levels-of-requires : tie.Need-levels-of-requires Inv-loop μ-loop
-levels-of-requires c κs = search needs
+halvings-of-requires : tie.Need-halvings-of-requires Inv-loop μ-loop
+halvings-of-requires c κs = search needs
 
 mul-rest : tie.Need-mul-rest Inv-loop μ-loop
 mul-rest c = search needs
@@ -28,20 +28,20 @@ mul-rest c = search needs
 loop-holds : tie.Need-loop-holds Inv-loop μ-loop
 loop-holds c = (omega arith, words-none)
 
-mul-finished : tie.Need-mul-finished Inv-loop μ-loop
-mul-finished c = search needs
+mul-offset-residue : tie.Need-mul-offset-residue Inv-loop μ-loop
+mul-offset-residue c = search needs
 
-slice-read-finished : tie.Need-slice-read-finished Inv-loop μ-loop
-slice-read-finished c = search needs
+slice-read-offset-residue : tie.Need-slice-read-offset-residue Inv-loop μ-loop
+slice-read-offset-residue c = search needs
 
-finished-requires : tie.Need-finished-requires Inv-loop μ-loop
-finished-requires c κs =
+offset-residue-requires : tie.Need-offset-residue-requires Inv-loop μ-loop
+offset-residue-requires c κs =
     let loop = c .before .before .loop in
     let s = c .before .before .before .before .before .before in
     let t = s .args .field in
     let small = s .pre .1 (loop .i) (omega arith) in
-    rw (c .before .before .before .before .bits-of .ensures, c .before .before .before .levels-of .ensures, loop .inv .1 .left (loop .i) (omega arith))
-    (field-finishing t (s .pre .0 .0) (s .pre .0 .1) _ small)
+    rw (c .before .before .before .before .bits-of .ensures, c .before .before .before .halvings-of .ensures, loop .inv .1 .left (loop .i) (omega arith))
+    (field-reducible t (s .pre .0 .0) (s .pre .0 .1) _ small)
 
 mul-words : tie.Need-mul-words Inv-loop μ-loop
 mul-words c = search needs
@@ -59,8 +59,8 @@ loop-again : tie.Need-loop-again Inv-loop μ-loop
 loop-again c =
     let loop = c .before .before .before .loop in
     let s = c .before .before .before .before .before .before .before in
-    let made = rw (c .before .before .before .before .before .bits-of .ensures, c .before .before .before .before .levels-of .ensures) at (c .finished .ensures) in
-    (omega arith, words-next _ (omega arith) (loop .inv .1) (field-finished (s .args .field) (s .pre .0 .0) (s .pre .0 .1) _ _ made))
+    let made = rw (c .before .before .before .before .before .bits-of .ensures, c .before .before .before .before .halvings-of .ensures) at (c .offset-residue .ensures) in
+    (omega arith, words-next _ (omega arith) (loop .inv .1) (field-residue (s .args .field) (s .pre .0 .0) (s .pre .0 .1) _ _ made))
 
 same-length : tie.Need-same-length Inv-loop μ-loop
 same-length c = search needs
@@ -68,19 +68,19 @@ same-length c = search needs
 returns : tie.Need-returns Inv-loop μ-loop
 returns c i l = c .before .loop .inv .1 .done i (omega arith)
 
-pub finish-spec : {M : Type 1} → statement M
-finish-spec =
+pub offset-residues-spec : {M : Type 1} → statement M
+offset-residues-spec =
     tie.close
     (tie.spec
     Inv-loop
     μ-loop
     bits-of-requires
-    levels-of-requires
+    halvings-of-requires
     mul-rest
     loop-holds
-    mul-finished
-    slice-read-finished
-    finished-requires
+    mul-offset-residue
+    slice-read-offset-residue
+    offset-residue-requires
     mul-words
     slice-write-words
     add-i

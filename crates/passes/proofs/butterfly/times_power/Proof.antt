@@ -4,9 +4,9 @@ use native.Mathlib.Omega.{arith}
 use borrow.Author.Needs.{needs}
 use lib.Pow.{pow-pos}
 use Rattle.fermat.specs.FieldSizeLaws.{one-shl}
-use Rattle.passes.specs.WordLaws.{multiple-above, shl-low, low-lt, high-le, turned-law}
-use Rattle.passes.proofs.butterfly.turned.Statement.{statement}
-use Rattle.passes.proofs.butterfly.turned.Tie as tie
+use Rattle.passes.specs.WordLaws.{multiple-above, shl-low, low-lt, high-le, times-power-law}
+use Rattle.passes.proofs.butterfly.times_power.Statement.{statement}
+use Rattle.passes.proofs.butterfly.times_power.Tie as tie
 
 sub-s : tie.Need-sub-s
 sub-s c = search needs
@@ -46,8 +46,8 @@ returns c =
     let g = c .args in
     let p = c .pre in
     rw (one-shl (g .bits - g .t) (omega arith), shl-low (p .0) (g .t) (g .d) (p .1 .0) (p .1 .1))
-    (turned-law (p .0) (g .t) (g .d) (p .1 .0) (p .1 .1))
+    (times-power-law (p .0) (g .t) (g .d) (p .1 .0) (p .1 .1))
 
-pub turned-spec : {M : Type 1} → statement M
-turned-spec =
+pub times-power-spec : {M : Type 1} → statement M
+times-power-spec =
     tie.close (tie.spec sub-s cast-p shl-p rem-result shl-result add-result cast-result shr-result sub-result returns)

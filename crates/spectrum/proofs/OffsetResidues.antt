@@ -8,9 +8,9 @@ use native.Mathlib.Numerals.{add-one}
 use lib.Pow.{pow-add, pow-mono}
 use Rattle.algebra.specs.Congruence.{Cong}
 use Rattle.algebra.specs.CongruenceLaws.{c-eq, c-sym, _⨟_, c-via, c-add, c-mul, c-refl, c-multiple}
-use Rattle.fermat.specs.Field.{modulus, points, scale}
+use Rattle.fermat.specs.Field.{modulus, transformLength, scale}
 use Rattle.fermat.specs.FieldLaws.{field-root}
-use Rattle.spectrum.specs.Product.{inverseMost, Finishing, Finished, finishedOf}
+use Rattle.spectrum.specs.Product.{inverseMost, Reducible, OffsetResidue, offsetResidue}
 
 -- ---- the first step: v over N
 
@@ -111,8 +111,8 @@ square-scale {m} n s p one minus =
     regroup n s p = omega arith
 
 -- z + v p is h modulo m, so z is s s v + h
-pub finished-value : {m : ℕ} (s p z v h : ℕ) → Cong m (s * s + p) 0 → z < m → Cong m (z + v * p) h → z ≡ (s * s * v + h) % m
-finished-value {m} s p z v h square below value =
+pub residue-value : {m : ℕ} (s p z v h : ℕ) → Cong m (s * s + p) 0 → z < m → Cong m (z + v * p) h → z ≡ (s * s * v + h) % m
+residue-value {m} s p z v h square below value =
     sym (mod-eq-of-lt below)
     ∙ (c-via (omega arith) (c-add (c-refl {a = z}) (c-mul (c-refl {a = v}) (c-sym square))) refl
     ⨟ c-via (omega arith) (c-add (c-refl {a = s * s * v}) value) refl) .same
@@ -121,7 +121,7 @@ module _ (t : ℕ) (low : 4 ≤ t) (high : t ≤ 5) where
   pub rest-le : 2 * (t + 1) ≤ 2 ^ t
   rest-le = omega (arith, pow-mono {i = 4} {j = t} low)
 
-  pub rest-is : 2 ^ (2 * (t + 1)) ≡ points t * points t
+  pub rest-is : 2 ^ (2 * (t + 1)) ≡ transformLength t * transformLength t
   rest-is = ap (λ (i : ℕ). 2 ^ i) (twice (t + 1)) ∙ pow-add 2 (t + 1) (t + 1)
     where
       twice : (n : ℕ) → 2 * n ≡ n + n
@@ -129,25 +129,25 @@ module _ (t : ℕ) (low : 4 ≤ t) (high : t ≤ 5) where
 
   pub field-square : Cong (modulus t) (scale t * scale t + 2 ^ (2 ^ t - 2 * (t + 1))) 0
   field-square =
-      square-scale (points t) (scale t) (2 ^ (2 ^ t - 2 * (t + 1)))
+      square-scale (transformLength t) (scale t) (2 ^ (2 ^ t - 2 * (t + 1)))
       (rw (← add-one t) at (field-root t .length))
       (c-via (ap (λ (i : ℕ). i + 1) whole ∙ omega arith) (c-multiple 0 1) refl)
     where
       parts : (b r : ℕ) → r ≤ b → r + (b - r) ≡ b
       parts b r l = omega arith
 
-      whole : points t * points t * 2 ^ (2 ^ t - 2 * (t + 1)) ≡ 2 ^ (2 ^ t)
+      whole : transformLength t * transformLength t * 2 ^ (2 ^ t - 2 * (t + 1)) ≡ 2 ^ (2 ^ t)
       whole =
           ap (λ (i : ℕ). i * 2 ^ (2 ^ t - 2 * (t + 1))) (sym rest-is) ∙ sym (pow-add 2 (2 * (t + 1)) (2 ^ t - 2 * (t + 1)))
           ∙ ap (λ (i : ℕ). 2 ^ i) (parts (2 ^ t) (2 * (t + 1)) rest-le)
 
-  pub field-finishing : (v : ℕ) → v ≤ inverseMost t → Finishing (2 ^ t) (2 * (t + 1)) v
-  field-finishing v h = record {
+  pub field-reducible : (v : ℕ) → v ≤ inverseMost t → Reducible (2 ^ t) (2 * (t + 1)) v
+  field-reducible v h = record {
     bits-low = omega (arith, pow-mono {i = 4} {j = t} low);
     bits-high = pow-mono {i = t} {j = 5} high;
     rest = rest-le;
-    bound = rw rest-is (rw (← (mul-assoc (4 * modulus t) (points t) (points t))) h);
+    bound = rw rest-is (rw (← (mul-assoc (4 * modulus t) (transformLength t) (transformLength t))) h);
   }
 
-  pub field-finished : (v z : ℕ) → Finished (2 ^ t) (2 * (t + 1)) v z → z ≡ finishedOf t v
-  field-finished v z f = finished-value (scale t) (2 ^ (2 ^ t - 2 * (t + 1))) z v (2 ^ (2 ^ t) / 2) field-square (f .below) (f .value)
+  pub field-residue : (v z : ℕ) → OffsetResidue (2 ^ t) (2 * (t + 1)) v z → z ≡ offsetResidue t v
+  field-residue v z f = residue-value (scale t) (2 ^ (2 ^ t - 2 * (t + 1))) z v (2 ^ (2 ^ t) / 2) field-square (f .below) (f .value)
