@@ -42,32 +42,54 @@ fn run_case(number: u64, layer: Layer, map: &[i16], kernel: &[i16], output: &mut
 {
     let mut scratch = [0u64; 12288];
     let progress = engine::run(layer, map, kernel, output, &mut scratch);
-    print::number(b"case", number);
-    print::number(b"code", progress.code as u64);
-    print::number(b"tiles", progress.count as u64);
-    print::end_line();
+    print::case(number, progress.code as u64, progress.count as u64);
     if progress.code == 0 && 0 < layer.columns {
         print::rows(output, layer.columns);
     }
 }
 
+// Cases 1 and 6: a kernel over the map X of 3 by 3.
+fn on_x(number: u64, kernel: &[i16]) {
+    let x = [1i16, 2, 3, 4, 5, 6, 7, 8, 9];
+    let mut output = [0i32; 4];
+    let layer = whole(0, 4, 3, 3, 2, 1, 0, 9, 2, 2);
+    run_case(number, layer, &x, kernel, &mut output);
+}
+
+// Cases 2 to 4: the map Y of 2 by 2 transposed with the kernel G, which has the same values, to outputs of `side` by `side`.
+fn on_y(number: u64, stride: usize, padding: usize, side: usize, output: &mut [i32])
+    requires { ⌜ length (now output) ≤ 1024 ⌝ }
+{
+    let y = [1i16, 2, 3, 4];
+    let layer = whole(1, 4, 2, 2, 2, stride, padding, 4, side, side);
+    run_case(number, layer, &y, &y, output);
+}
+
+// Case 2: a stride of 2.
+fn strided() {
+    let mut output = [0i32; 16];
+    on_y(2, 2, 0, 4, &mut output);
+}
+
+// Case 3: overlapping windows.
+fn overlapping() {
+    let mut output = [0i32; 9];
+    on_y(3, 1, 0, 3, &mut output);
+}
+
+// Case 4: padding.
+fn padded() {
+    let mut output = [0i32; 1];
+    on_y(4, 1, 1, 1, &mut output);
+}
+
 // Cases 1 to 4 and 6: X, Y and G.
 fn small_charts() {
-    let x = [1i16, 2, 3, 4, 5, 6, 7, 8, 9];
-    let y = [1i16, 2, 3, 4];
-    let g = [1i16, 2, 3, 4];
-    let difference = [1i16, 0, 0, -1];
-    let first = whole(0, 4, 3, 3, 2, 1, 0, 9, 2, 2);
-    let mut one = [0i32; 1];
-    let mut four = [0i32; 4];
-    let mut again = [0i32; 4];
-    let mut nine = [0i32; 9];
-    let mut sixteen = [0i32; 16];
-    run_case(1, first, &x, &g, &mut four);
-    run_case(2, whole(1, 4, 2, 2, 2, 2, 0, 4, 4, 4), &y, &g, &mut sixteen);
-    run_case(3, whole(1, 4, 2, 2, 2, 1, 0, 4, 3, 3), &y, &g, &mut nine);
-    run_case(4, whole(1, 4, 2, 2, 2, 1, 1, 4, 1, 1), &y, &g, &mut one);
-    run_case(6, first, &x, &difference, &mut again);
+    on_x(1, &[1, 2, 3, 4]);
+    strided();
+    overlapping();
+    padded();
+    on_x(6, &[1, 0, 0, -1]);
 }
 
 // A single value and a single weight in F_4.
@@ -99,10 +121,7 @@ fn loads() {
 // The number of the case and the planner's answer.
 fn plan_case(number: u64, layer: Layer) {
     let figures = plan(layer);
-    print::number(b"case", number);
-    print::number(b"code", figures.code as u64);
-    print::number(b"tiles", figures.tiles as u64);
-    print::end_line();
+    print::case(number, figures.code as u64, figures.tiles as u64);
 }
 
 // Cases 10 and 11, and the heights of case 13.

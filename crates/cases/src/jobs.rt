@@ -4,32 +4,31 @@ ghost use lib.ListN.{length};
 use crate::print;
 use crate::sequence::draw_values;
 use engine::job::Job;
-use engine::job::Progress;
 use layer::shape::Layer;
 
-// What a call answers.
-fn print_answer(budget: usize, progress: Progress) {
-    print::number(b"budget", budget as u64);
-    print::number(b"code", progress.code as u64);
-    print::number(b"count", progress.count as u64);
-    print::number(b"next", progress.job.next as u64);
-    print::number(b"done", progress.done as u64);
+// What a call with that budget answers.
+fn print_answer(budget: u64, code: u64, count: u64, next: u64, done: u64) {
+    print::number(b"budget", budget);
+    print::number(b"code", code);
+    print::number(b"count", count);
+    print::number(b"next", next);
+    print::number(b"done", done);
     print::end_line();
 }
 
-// One call: what it answers, and the output that it leaves.
-fn stop(
-    job: Job,
-    budget: usize,
-    map: &[i16],
-    kernel: &[i16],
-    output: &mut [i32],
-    scratch: &mut [u64],
-) -> Job
+// One call: what it answers, and the output that it leaves. Scratch is lent anew to each call, dirty and one word longer than is used in F_5.
+fn stop(job: Job, budget: usize, map: &[i16], kernel: &[i16], output: &mut [i32]) -> Job
     requires { ⌜ length (now output) ≤ 1024 ⌝ }
 {
-    let progress = job.advance(budget, map, kernel, output, scratch);
-    print_answer(budget, progress);
+    let mut scratch = [7u64; 12289];
+    let progress = job.advance(budget, map, kernel, output, &mut scratch);
+    print_answer(
+        budget as u64,
+        progress.code as u64,
+        progress.count as u64,
+        progress.job.next as u64,
+        progress.done as u64,
+    );
     let columns = progress.job.layer.columns;
     if 0 < columns {
         print::rows(output, columns);
@@ -37,35 +36,41 @@ fn stop(
     progress.job
 }
 
-// The first calls of a job: none of its tiles, one, and a call without a map.
-fn begin(layer: Layer, map: &[i16], kernel: &[i16], output: &mut [i32], scratch: &mut [u64]) -> Job
+// Two calls.
+fn stops(
+    job: Job,
+    first: usize,
+    second: usize,
+    map: &[i16],
+    kernel: &[i16],
+    output: &mut [i32],
+) -> Job
     requires { ⌜ length (now output) ≤ 1024 ⌝ }
 {
-    let none = stop(Job::new(layer), 0, map, kernel, output, scratch);
-    let one = stop(none, 1, map, kernel, output, scratch);
-    stop(one, 1, &map[0..0], kernel, output, scratch)
+    let moved = stop(job, first, map, kernel, output);
+    stop(moved, second, map, kernel, output)
 }
 
-// The last ones: two tiles, all that are left, and one more when all is done.
-fn end(job: Job, map: &[i16], kernel: &[i16], output: &mut [i32], scratch: &mut [u64]) -> Job
+// A whole job: none of its tiles, one, one in a call without a map, two, all that are left, and one more when all is done.
+fn in_budgets(job: Job, map: &[i16], kernel: &[i16], output: &mut [i32])
     requires { ⌜ length (now output) ≤ 1024 ⌝ }
 {
-    let three = stop(job, 2, map, kernel, output, scratch);
-    let all = stop(three, 18446744073709551615, map, kernel, output, scratch);
-    stop(all, 1, map, kernel, output, scratch)
+    let one = stops(job, 0, 1, map, kernel, output);
+    let refused = stop(one, 1, &map[0..0], kernel, output);
+    let all = stops(refused, 2, 18446744073709551615, map, kernel, output);
+    stop(all, 1, map, kernel, output);
 }
 
 // A whole job in budgets, and then one whose index is above the total.
-fn in_budgets(layer: Layer, map: &[i16], kernel: &[i16], output: &mut [i32], scratch: &mut [u64])
+fn run_layer(layer: Layer, map: &[i16], kernel: &[i16], output: &mut [i32])
     requires { ⌜ length (now output) ≤ 1024 ⌝ }
 {
-    let job = begin(layer, map, kernel, output, scratch);
-    end(job, map, kernel, output, scratch);
+    in_budgets(Job::new(layer), map, kernel, output);
     let beyond = Job {
         layer: layer,
         next: 18446744073709551615,
     };
-    stop(beyond, 1, map, kernel, output, scratch);
+    stop(beyond, 1, map, kernel, output);
 }
 
 // CONV in F_4, cropped to 2 rows of 8: 2 channels, 4 tiles.
@@ -89,10 +94,9 @@ fn conv() {
     let mut map = [0i16; 3120];
     let mut kernel = [0i16; 484];
     let mut output = [7i32; 32];
-    let mut scratch = [7u64; 3073];
     let seed = draw_values(&mut map, 100, 1);
     draw_values(&mut kernel, 1, seed);
-    in_budgets(layer, &map, &kernel, &mut output, &mut scratch);
+    run_layer(layer, &map, &kernel, &mut output);
 }
 
 // TCONV in F_5, cropped to 1 row of 70: 2 channels, 4 tiles.
@@ -116,10 +120,9 @@ fn tconv() {
     let mut map = [0i16; 240];
     let mut kernel = [0i16; 100];
     let mut output = [7i32; 140];
-    let mut scratch = [7u64; 12289];
     let seed = draw_values(&mut map, 1000, 2);
     draw_values(&mut kernel, 1000, seed);
-    in_budgets(layer, &map, &kernel, &mut output, &mut scratch);
+    run_layer(layer, &map, &kernel, &mut output);
 }
 
 pub fn run() {

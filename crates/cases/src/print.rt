@@ -16,6 +16,14 @@ pub fn end_line() {
     io::write_all(STDOUT_FILENO, b"\n");
 }
 
+// The number of a case, an answer and a count of tiles.
+pub fn case(number_of_case: u64, code: u64, tiles: u64) {
+    number(b"case", number_of_case);
+    number(b"code", code);
+    number(b"tiles", tiles);
+    end_line();
+}
+
 // Values in rows of `width`.
 pub fn rows(values: &[i32], width: usize)
     requires { ⌜ (0 < width) × (length (now values) ≤ 1024) ⌝ }

@@ -69,16 +69,21 @@ fn print_words(words: &[u64]) {
     io::write_all(STDOUT_FILENO, b"\n");
 }
 
-// One vector, its transform and its inverse. The inverse is taken twice: the first undoes the transform.
-fn run_vector(field: usize, words: &mut [u64], number: u64, seed: u64) -> u64
-    requires { ⌜ 1 < length (now words) ⌝ }
-{
-    let state = vector(words, number, modulus(field), seed);
+// The field and the number of a vector.
+fn name_vector(field: usize, number: u64) {
     io::write_all(STDOUT_FILENO, b"field ");
     io::print_decimal(STDOUT_FILENO, field as u64);
     io::write_all(STDOUT_FILENO, b" vector ");
     io::print_decimal(STDOUT_FILENO, number);
     io::write_all(STDOUT_FILENO, b"\n");
+}
+
+// One vector, its transform and its inverse. The inverse is taken twice: the first undoes the transform.
+fn run_vector(field: usize, words: &mut [u64], number: u64, seed: u64) -> u64
+    requires { ⌜ 1 < length (now words) ⌝ }
+{
+    let state = vector(words, number, modulus(field), seed);
+    name_vector(field, number);
     print_words(words);
     transform::transform(field, words);
     print_words(words);
@@ -107,17 +112,22 @@ fn set_last(words: &mut [u64], word: u64) {
     words[last] = word;
 }
 
+// The answers of both routines.
+fn print_refusals(code: usize, again: usize) {
+    io::write_all(STDOUT_FILENO, b"refused ");
+    io::print_decimal(STDOUT_FILENO, code as u64);
+    io::write_all(STDOUT_FILENO, b" ");
+    io::print_decimal(STDOUT_FILENO, again as u64);
+    io::write_all(STDOUT_FILENO, b" ");
+}
+
 // Calls on words 7, the last of which is `word`: the answers of both routines, and the words that they leave.
 fn refuse(field: usize, words: &mut [u64], word: u64) {
     fill(words, 7);
     set_last(words, word);
     let code = transform::transform(field, words);
     let again = transform::inverse(field, words);
-    io::write_all(STDOUT_FILENO, b"refused ");
-    io::print_decimal(STDOUT_FILENO, code as u64);
-    io::write_all(STDOUT_FILENO, b" ");
-    io::print_decimal(STDOUT_FILENO, again as u64);
-    io::write_all(STDOUT_FILENO, b" ");
+    print_refusals(code, again);
     print_words(words);
 }
 

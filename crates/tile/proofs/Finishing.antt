@@ -21,8 +21,9 @@ use Rattle.layer.specs.Direct.{directAt}
 use Rattle.layer.specs.TileLaws.{InTile, planned-tiled, to-tile}
 use Rattle.checks.specs.Callable.{Callable}
 use Rattle.checks.specs.Engine.{tileEngine}
-use Rattle.window.specs.Window.{firstRow, firstColumn, channelSum}
+use Rattle.window.specs.Window.{channelSum}
 use Rattle.store.specs.Stored.{wordOf, storedAt}
+use Rattle.tile.specs.Start.{firstRow, firstColumn}
 use Rattle.tile.specs.declared.origin.Origin.{Origin}
 use Rattle.tile.specs.Channel.{area, Added}
 use Rattle.tile.proofs.TileReads.{row-in-window, column-in-window, tile-reads}

@@ -23,7 +23,8 @@ use Rattle.load.specs.Load.{loadLimit}
 use Rattle.load.specs.LoadLaws.{peak-bounds, load-fits, direct-load}
 use Rattle.checks.specs.Callable.{Callable}
 use Rattle.checks.specs.Engine.{tileEngine}
-use Rattle.window.specs.Window.{firstRow, firstColumn, windowAt, weightAt, channelSum}
+use Rattle.window.specs.Window.{windowAt, weightAt, channelSum}
+use Rattle.tile.specs.Start.{firstRow, firstColumn}
 use Rattle.tile.proofs.WindowIdentity.{tile-sum}
 use Rattle.tile.proofs.Folding.{folding}
 use Rattle.tile.proofs.Reading.{field-reading}

@@ -20,7 +20,8 @@ use Rattle.layer.specs.Shape.{isConv, tileSide, gridStep, channelOf, rowOf, col
 use Rattle.layer.specs.Direct.{within, shifted, directAt, planeOf}
 use Rattle.layer.specs.TileLaws.{InTile}
 use Rattle.layer.specs.WeighedLaws.{full-weighed}
-use Rattle.window.specs.Window.{spacing, edge, firstRow, firstColumn, windowAt, turnedIndex, weightAt, channelSum}
+use Rattle.window.specs.Window.{spacing, edge, windowAt, turnedIndex, weightAt, channelSum}
+use Rattle.tile.specs.Start.{firstRow, firstColumn}
 
 -- ---- spaced values
 

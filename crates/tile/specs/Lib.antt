@@ -1,2 +1,3 @@
 -- definitions
+pub mod Start
 pub mod Channel

@@ -5,7 +5,7 @@ ghost use mathlib.Core.Path.{_≡_};
 ghost use Prim.Native.Nat.{_<_};
 ghost use Rattle.layer.specs.Planned.{Planned};
 ghost use Rattle.layer.specs.Shape.{tileTotal, tileChannel};
-ghost use Rattle.window.specs.Window.{firstRow, firstColumn};
+ghost use Rattle.tile.specs.Start.{firstRow, firstColumn};
 ghost use Rattle.tile.specs.Channel.{OriginInRange};
 
 // The output channel of a tile, and the row and the column of the stride-1 grid that its windows begin at.

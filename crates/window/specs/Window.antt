@@ -9,7 +9,7 @@ use Rattle.algebra.specs.Sum.{sumZ}
 use Rattle.layer.specs.Windows.{spaced}
 use Rattle.layer.specs.Direct.{planeOf}
 use Rattle.layer.specs.declared.shape.Layer.{Layer}
-use Rattle.layer.specs.Shape.{isConv, tileSide, gridStep, tileRow, tileColumn}
+use Rattle.layer.specs.Shape.{isConv}
 
 -- grid places from one map value to the next: 1 in CONV, S in TCONV
 abbrev pub spacing : Layer → ℕ
@@ -18,13 +18,6 @@ spacing l = cond (isConv l) 1 (l .stride)
 -- grid places before the first map value: P in CONV, K − 1 − P in TCONV
 abbrev pub edge : Layer → ℕ
 edge l = cond (isConv l) (l .padding) (l .side - 1 - l .padding)
-
--- the grid row and column that the window of tile t begins at: the crop's first output and the tiles before
-abbrev pub firstRow : Layer → ℕ → ℕ
-firstRow l t = l .top * gridStep l + tileRow l t * tileSide l
-
-abbrev pub firstColumn : Layer → ℕ → ℕ
-firstColumn l t = l .left * gridStep l + tileColumn l t * tileSide l
 
 -- what the window of map channel c that begins at that row and column shows at place (u, v)
 abbrev pub windowAt : Layer → List ℤ → (c row column u v : ℕ) → ℤ
