@@ -5,17 +5,23 @@ use native.Mathlib.Nat.{mod-lt, div-lt-iff-lt-mul, mul-le-mul}
 use native.Mathlib.Omega.{arith}
 use lib.Arith.{digits-lt, digits-div, digits-mod}
 use lib.IntN.{ℤ, pos}
-use Rattle.algebra.specs.Planes.{cell, stacked}
+use Rattle.algebra.specs.Planes.{cell, stackedAt, stacked}
 use Rattle.algebra.specs.PlacesLaws.{getD-table, table-same}
+
+-- a flat place from its plane, row and column
+flat : (A B k i j : ℕ) → (k * A + i) * B + j ≡ k * (A * B) + (i * B + j)
+flat A B k i j = omega arith
+
+pub stacked-at : (A B : ℕ) (value : ℕ → ℕ → ℕ → ℤ) (k i j : ℕ) → i < A → j < B → stackedAt A B value ((k * A + i) * B + j) ≡ value k i j
+stacked-at A B value k i j row column =
+    let inner : i * B + j < A * B = digits-lt row column in
+    rw (flat A B k i j, digits-div k inner, digits-mod k inner, digits-div i column, digits-mod i column)
 
 pub cell-stacked : (planes A B : ℕ) (value : ℕ → ℕ → ℕ → ℤ) (k i j : ℕ) → k < planes → i < A → j < B
     → cell A B (stacked planes A B value) k i j ≡ value k i j
 cell-stacked planes A B value k i j plane row column =
-    let inner : i * B + j < A * B = digits-lt row column in
-    let flat : (k * A + i) * B + j ≡ k * (A * B) + (i * B + j) = omega arith in
-    rw flat
-    (getD-table (pos 0) (planes * (A * B)) _ (k * (A * B) + (i * B + j)) (digits-lt plane inner)
-    ∙ rw (digits-div k inner, digits-mod k inner, digits-div i column, digits-mod i column))
+    getD-table (pos 0) (planes * (A * B)) _ ((k * A + i) * B + j) (rw (flat A B k i j) (digits-lt plane (digits-lt row column)))
+    ∙ stacked-at A B value k i j row column
 
 -- planes are the same where they are at every row and column
 pub stacked-same : (planes A B : ℕ) {u v : ℕ → ℕ → ℕ → ℤ} → 0 < A → 0 < B

@@ -13,15 +13,14 @@ abbrev pub firstBroken : List Rule → ℕ
 firstBroken [] = 0
 firstBroken (rule number holds ∷ rules) = cond holds (firstBroken rules) number
 
--- the code after one rule more: the code so far, or, where that is 0, this rule's number if the rule does not hold
-unfoldable pub nextCode : (code number : ℕ) → (holds : Bool) → ℕ
-nextCode zero number holds = cond holds 0 number
-nextCode (suc code) number holds = suc code
-
 -- the first of two codes that is not 0, or 0
 unfoldable pub firstCode : (code other : ℕ) → ℕ
 firstCode zero other = other
 firstCode (suc code) other = suc code
+
+-- the code after one rule more: the code so far, or, where that is 0, this rule's number if the rule does not hold
+unfoldable pub nextCode : (code number : ℕ) → (holds : Bool) → ℕ
+nextCode code number holds = firstCode code (cond holds 0 number)
 
 -- x is from low to high
 unfoldable pub inside : (low high x : ℕ) → Bool

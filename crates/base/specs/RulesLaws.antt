@@ -41,7 +41,7 @@ checked code [] = code
 checked code (rule number holds ∷ rules) = checked (nextCode code number holds) rules
 
 pub rule-by-rule : (rules : List Rule) → T (numbered rules) → checked 0 rules ≡ firstBroken rules
-unfolding nextCode
+unfolding nextCode firstCode
 rule-by-rule [] n = refl
 rule-by-rule (rule number true ∷ rules) n = rule-by-rule rules (and-yes (ltb 0 number) (numbered rules) n .1)
 rule-by-rule (rule zero false ∷ rules) n = absurd (and-yes (ltb 0 zero) (numbered rules) n .0)
@@ -51,22 +51,10 @@ rule-by-rule (rule (suc number) false ∷ rules) n = stays number rules
     stays code [] = refl
     stays code (rule number holds ∷ rules) = stays code rules
 
--- one rule alone, and one rule more at the end; `test` is what the code found
+-- one rule alone; `test` is what the code found
 pub one-rule : (number : ℕ) {code : ℕ} {test holds : Bool} → code ≡ nextCode 0 number test → test ≡ holds → code ≡ firstBroken (rule number holds ∷ [])
-unfolding nextCode
+unfolding nextCode firstCode
 one-rule number e t = e ∙ ap (λ (b : Bool). cond b 0 number) t
-
-pub one-more-rule : (rules : List Rule) → T (numbered rules) → (number : ℕ) {before code : ℕ} {test holds : Bool} → before ≡ firstBroken rules
-    → code ≡ nextCode before number test → test ≡ holds → code ≡ firstBroken (rules ++ rule number holds ∷ [])
-unfolding nextCode
-one-more-rule rules n number {holds = holds} f e t =
-    e ∙ ap₂ (λ (a : ℕ) (b : Bool). nextCode a number b) f t ∙ last rules n
-  where
-    last : (rules : List Rule) → T (numbered rules) → nextCode (firstBroken rules) number holds ≡ firstBroken (rules ++ rule number holds ∷ [])
-    last [] n = refl
-    last (rule first true ∷ rules) n = last rules (and-yes (ltb 0 first) (numbered rules) n .1)
-    last (rule zero false ∷ rules) n = absurd (and-yes (ltb 0 zero) (numbered rules) n .0)
-    last (rule (suc first) false ∷ rules) n = refl
 
 -- ---- two lists of rules, one after the other: the first list's answer where it is not 0, else the second's
 
@@ -97,6 +85,13 @@ codes-in-order rules more n e f g = e ∙ ap₂ firstCode f g ∙ joined rules n
     joined (rule number true ∷ rules) n = joined rules (and-yes (ltb 0 number) (numbered rules) n .1)
     joined (rule zero false ∷ rules) n = absurd (and-yes (ltb 0 zero) (numbered rules) n .0)
     joined (rule (suc number) false ∷ rules) n = refl
+
+-- one rule more at the end
+pub one-more-rule : (rules : List Rule) → T (numbered rules) → (number : ℕ) {before code : ℕ} {test holds : Bool} → before ≡ firstBroken rules
+    → code ≡ nextCode before number test → test ≡ holds → code ≡ firstBroken (rules ++ rule number holds ∷ [])
+unfolding nextCode
+one-more-rule rules n number {holds = holds} f e t =
+    codes-in-order rules (rule number holds ∷ []) n e f (ap (λ (b : Bool). cond b 0 number) t)
 
 -- the answer 0 is that of both lists
 pub both-accept : (rules more : List Rule) → T (numbered rules) → firstBroken (rules ++ more) ≡ 0 →

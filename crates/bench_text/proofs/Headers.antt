@@ -1,4 +1,4 @@
--- What is printed for an input, by what its header says. It rests on the definitions and on fermat's laws of an outcome.
+-- What is printed for an input, by what its header says. It rests on the definitions and on the laws of an outcome.
 use mathlib.Core.Path.{_≡_, ap, _∙_, sym}
 use mathlib.Core.Bool.{Bool, true, false, and-false}
 use mathlib.Core.List.{List}

@@ -4,11 +4,12 @@ use mathlib.Core.Path.{_≡_, refl, sym, ap, ap₂, _∙_}
 use mathlib.Core.List.{List}
 use Prim.Native.Nat.{ℕ, _+_, _*_, _-_, _%_, _<_, _≤_}
 use native.Mathlib.Omega.{arith}
-use lib.Arith.{digits-lt, digits-div, digits-mod}
+use lib.Arith.{digits-lt}
 use lib.IntN.{ℤ, pos, _*ℤ_}
 use lib.ListN.{length}
 use borrow.Author.Tests.{eq-eqb, ne-eqb}
 use Rattle.algebra.specs.Planes.{cell}
+use Rattle.algebra.specs.PlanesLaws.{stacked-at}
 use Rattle.algebra.specs.PlacesLaws.{getD-table}
 use Rattle.algebra.specs.TripleSums.{sum3-cong}
 use Rattle.layer.specs.PlannedLaws.{conv-room}
@@ -31,9 +32,7 @@ direct-cell : (l : Layer) (map kernel : List ℤ) (m i j : ℕ) → i < l .rows 
     → directAt l map kernel ((m * l .rows + i) * l .columns + j) ≡ fullAt l map kernel m (l .top + i) (l .left + j)
 unfolding directAt
 direct-cell l map kernel m i j row column =
-    let flat : (m * l .rows + i) * l .columns + j ≡ m * (l .rows * l .columns) + (i * l .columns + j) = omega arith in
-    let inner : i * l .columns + j < l .rows * l .columns = digits-lt row column in
-    rw (flat, digits-div m inner, digits-mod m inner, digits-div i column, digits-mod i column)
+    stacked-at (l .rows) (l .columns) (λ k r c. fullAt l map kernel k (l .top + r) (l .left + c)) m i j row column
 
 -- the values in the buffer after a list are the full output
 full-cell : {engine : Engine} → Lawful engine → {l : Layer} {map kernel : List ℤ} (list : JobCalls engine l map kernel) → Reaches list → NotCropped l

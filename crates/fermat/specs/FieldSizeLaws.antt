@@ -16,7 +16,7 @@ pub shifted : {s e : ℕ} → s ≡ e → e ≤ 32 → (1 * 2 ^ s) % 2 ^ 64 ≡ 
 shifted {s} {e} same small = one-shl s (omega arith) ∙ ap (λ (i : ℕ). 2 ^ i) same
 
 module _ (t : ℕ) where
-  -- the levels are at most as many as the bits
+  -- the halvings are at most as many as the bits
   pub halvings-le : t + 1 ≤ 2 ^ t
   halvings-le = omega (arith, exponent-lt t)
 

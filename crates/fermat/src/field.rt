@@ -3,7 +3,7 @@ ghost use mathlib.Core.Path.{_≡_};
 ghost use Prim.Native.Nat.{_+_, _^_, _≤_};
 ghost use Rattle.fermat.specs.Field.{modulus, transformLength, scale};
 
-// The levels of a transform: it makes a pass at each.
+// How often the length N is halved down to 1: a transform makes as many passes.
 pub fn halvings_of(field: usize) -> u32
     requires { ⌜ field ≤ 5 ⌝ }
     ensures { λ r. ⌜ r ≡ field + 1 ⌝ }

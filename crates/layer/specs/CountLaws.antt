@@ -1,5 +1,5 @@
 -- Bounds of the counts of a layer's values, and of the products on the way to them, so that no product wraps. They rest on the ranges of
--- `ChecksLaws`.
+-- `Planned`.
 use Prim.Native.Nat.{_*_, _≤_}
 use native.Mathlib.Nat.{mul-le-mul}
 use Rattle.layer.specs.Planned.{InRange, Planned}

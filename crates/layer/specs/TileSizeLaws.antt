@@ -1,4 +1,4 @@
--- Bounds of a layer's tile figures, so that arithmetic on them does not wrap. They rest on the ranges of `ChecksLaws`.
+-- Bounds of a layer's tile figures, so that arithmetic on them does not wrap. They rest on the ranges of `Planned`.
 use Prim.Native.Nat.{ℕ, _+_, _*_, _-_, _≤_}
 use native.Mathlib.Nat.{div-le-self, mul-le-mul}
 use native.Mathlib.Omega.{arith}

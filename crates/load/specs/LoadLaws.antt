@@ -1,5 +1,5 @@
 -- The load of an output channel bounds the size of its direct sums, so that a sum whose load is within the limit is read back from its
--- residue. Rules 15 and 16 bound every map value and the load of every output channel. It rests on the one form of both kinds in Weighed, on the
+-- residue. Rules 15 and 16 bound every map value and the load of every output channel. It rests on the one form of both kinds in `WeighedLaws`, on the
 -- laws of groups, and on the sizes of sums.
 use mathlib.Core.Path.{_≡_, refl}
 use mathlib.Core.Bool.{Bool, true, false, _&&_, cond}

@@ -38,7 +38,7 @@ tile-undone {m} {w} {v} {s} {t} {l} {n} {z} {xs} ys root e forward inverse r j l
     undone : (r j : ℕ) → r < 2 ^ l → j < 2 ^ l → Cong m (s * s * powerSum2 (2 ^ l) v (powerSum2 (2 ^ l) w z) r j) (z r j)
     undone = rw e (c-undo2 root z)
 
--- the numbers of the field t: the side of a tile, its levels, the bits and the modulus
+-- the numbers of the field t: the side of a tile, its halvings, the bits and the modulus
 pub record Numbers (t n l b m : ℕ) : Type 0 where
   pub side : n ≡ transformLength t
   pub halvings : l ≡ t + 1

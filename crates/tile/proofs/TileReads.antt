@@ -1,5 +1,5 @@
 -- The words of a tile read as the direct sums. Where words represent the tile's windows and weights, their circular sums over all map
--- channels represent the direct sums (WindowIdentity, Folding), and these are within the load limit, so that they are read back (Reading).
+-- channels represent the direct sums (WindowIdentity, Folding), and these are within the load limit, so that they are read back (`Reading`).
 use mathlib.Core.Path.{_≡_, sym, subst}
 use mathlib.Core.Logic.{_⊎_}
 use mathlib.Core.List.{List}

@@ -1,5 +1,5 @@
 -- The direct sum at a place of a tile is a plain sum of weights times values of the tile's window. It rests on the one form of both kinds
--- in layer's Weighed; here each weight is shown to meet the same value in the window, and CONV's kernel is turned round.
+-- in layer's `WeighedLaws`; here each weight is shown to meet the same value in the window, and CONV's kernel is turned round.
 use mathlib.Core.Path.{_≡_, refl, sym, ap, ap₂, _∙_}
 use mathlib.Core.Bool.{Bool, true, false}
 use mathlib.Core.List.{List}

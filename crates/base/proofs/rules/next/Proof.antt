@@ -1,26 +1,22 @@
--- The code so far stays where it is not 0.
-use mathlib.Core.Path.{_≡_, refl}
-use mathlib.Core.Bool.{Bool}
-use Prim.Native.Nat.{ℕ, zero, suc}
-use Rattle.base.specs.Rules.{nextCode}
+-- The first of two codes: the code so far, and this rule's.
+use mathlib.Core.Path.{_≡_, ap, _∙_}
+use mathlib.Core.Bool.{cond}
+use mathlib.Core.Logic.{⊎-elim}
+use borrow.Author.Needs.{needs}
+use Rattle.base.specs.Rules.{firstCode, nextCode}
 use Rattle.base.proofs.rules.next.Statement.{statement}
 use Rattle.base.proofs.rules.next.Tie as tie
 
-stays : (code number : ℕ) (holds : Bool) → (code ≡ 0 → ⊥) → code ≡ nextCode code number holds
-unfolding nextCode
-stays zero number holds stopped = absurd (stopped refl)
-stays (suc code) number holds stopped = refl
+-- this rule's code
+answer-is : (c : tie.Joined1) → let a = c .before .args in c .if1 .answer ≡ cond (a .holds) 0 (a .number)
+answer-is c = ⊎-elim (λ w. rw (w .0 .taken) (w .1)) (λ w. rw (w .0 .left) (w .1)) (c .if1 .came)
+
+first-code-requires : tie.Need-first-code-requires
+first-code-requires c κs = search needs
 
 returns : tie.Need-returns
-returns c = stays _ _ _ (c .if1 .taken)
-
-returns-2 : tie.Need-returns-2
 unfolding nextCode
-returns-2 c = rw (c .before .if1 .left, c .if2 .taken)
-
-returns-3 : tie.Need-returns-3
-unfolding nextCode
-returns-3 c = rw (c .before .if1 .left, c .if2 .left)
+returns c = c .first-code .ensures ∙ ap (firstCode (c .before .before .args .code)) (answer-is (c .before))
 
 pub next-spec : {M : Type 1} → statement M
-next-spec = tie.close (tie.spec returns returns-2 returns-3)
+next-spec = tie.close (tie.spec first-code-requires returns)

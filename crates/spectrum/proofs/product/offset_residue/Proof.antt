@@ -1,4 +1,4 @@
--- The powers of 2 are exact, and each step is its law of Finish, with T for 2 ^ bits, N for 2 ^ rest and S for 2 ^ (bits - rest).
+-- The powers of 2 are exact, and each step is its law of `OffsetResidues`, with T for 2 ^ bits, N for 2 ^ rest and S for 2 ^ (bits - rest).
 use mathlib.Core.Path.{_≡_, ap, _∙_}
 use Prim.Native.Nat.{ℕ, _+_, _-_, _*_, _/_, _%_, _^_, _<_, _≤_}
 use native.Mathlib.Nat.{mod-lt, mul-comm}
