@@ -7,18 +7,7 @@ use libc::STDOUT_FILENO;
 fn main() {
     let mut input = [0u8; 16385];
     let count = io::read_full(STDIN_FILENO, &mut input);
-    let mut map = [0i16; 1024];
-    let mut kernel = [0i16; 512];
-    let mut output = [0i32; 1024];
-    let mut scratch = [0u64; 3072];
     let mut lines = [0u8; 16384];
-    let end = answer(
-        &mut lines,
-        &input[..count],
-        &mut map,
-        &mut kernel,
-        &mut output,
-        &mut scratch,
-    );
+    let end = answer(&mut lines, &input[..count]);
     io::write_all(STDOUT_FILENO, &lines[..end]);
 }

@@ -13,9 +13,9 @@ use lib.ListN.{length, take, drop, length-drop}
 use lib.Seq.{take-all}
 use Rattle.layer.specs.declared.shape.Layer.{Layer}
 use Rattle.layer.specs.Shape.{mapCount, kernelCount}
-use Rattle.text.specs.Words.{everyWord, isValue, valuesOf}
-use Rattle.text.specs.Lines.{unreadable}
-use Rattle.text.specs.Reading.{BodyRead}
+use Rattle.words.specs.Words.{everyWord, isValue, valuesOf}
+use Rattle.lines.specs.Lines.{unreadable}
+use Rattle.words.specs.Reading.{BodyRead}
 use Rattle.bench_text.specs.Printed.{small, ran, bodyPrinted}
 
 -- there are `count` words at least, and the first `count` of them pass the test

@@ -12,8 +12,8 @@ use Rattle.layer.specs.declared.shape.Layer.{Layer}
 use Rattle.layer.specs.Numbers.{layerOf}
 use Rattle.checks.specs.Engine.{tileEngine}
 use Rattle.checks.specs.Checks.{planCode}
-use Rattle.text.specs.Words.{figuresOf}
-use Rattle.text.specs.Lines.{refusedWord, numbered, unreadable}
+use Rattle.words.specs.Words.{figuresOf}
+use Rattle.lines.specs.Lines.{refusedWord, numbered, unreadable}
 use Rattle.bench_text.specs.Printed.{small, isLong, inputWords, headerReads, bodyPrinted, printed}
 
 -- the first bytes, at most n

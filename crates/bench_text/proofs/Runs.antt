@@ -20,7 +20,7 @@ use Rattle.engine.specs.declared.job.Progress.{Progress}
 use Rattle.engine.specs.Call.{startOf, Called}
 use Rattle.engine.specs.CallsLaws.{called-code}
 use Rattle.engine.specs.RunLaws.{run-frame}
-use Rattle.text.specs.Lines.{tilesWord, refusedWord, numbered, rowsText}
+use Rattle.lines.specs.Lines.{tilesWord, refusedWord, numbered, rowsText}
 use Rattle.bench_text.specs.Printed.{ran}
 
 module _ {l : Layer} {map kernel output : List ℤ} {scratch : List ℕ} {progress : Progress} {output-left : List ℤ} {scratch-left : List ℕ}

@@ -13,8 +13,8 @@ use Rattle.layer.specs.Shape.{mapCount, kernelCount, outputCount, tileTotal}
 use Rattle.layer.specs.Direct.{directAt}
 use Rattle.checks.specs.Engine.{tileEngine}
 use Rattle.checks.specs.Checks.{planCode, runCode}
-use Rattle.text.specs.Words.{wordsOf, everyWord, isFigure, isValue, figuresOf, valuesOf}
-use Rattle.text.specs.Lines.{tilesWord, refusedWord, numbered, unreadable, rowsText}
+use Rattle.words.specs.Words.{wordsOf, everyWord, isFigure, isValue, figuresOf, valuesOf}
+use Rattle.lines.specs.Lines.{tilesWord, refusedWord, numbered, unreadable, rowsText}
 
 -- ---- the run, in F_4 with its 3N² = 3,072 words of scratch
 

@@ -5,17 +5,15 @@ ghost use Prim.Native.Nat.{_≤_};
 ghost use lib.ListN.{length, take, drop};
 ghost use Rattle.layer.specs.Planned.{Planned};
 ghost use Rattle.layer.specs.Shape.{mapCount, kernelCount, outputCount};
-ghost use Rattle.text.specs.Words.{wordsOf};
-ghost use Rattle.text.specs.Reading.{BodyRead};
-ghost use Rattle.text.specs.Writing.{Appended};
+ghost use Rattle.words.specs.Words.{wordsOf};
+ghost use Rattle.words.specs.Reading.{BodyRead};
+ghost use Rattle.lines.specs.Writing.{Appended};
 ghost use Rattle.bench_text.specs.Printed.{small, ran, bodyPrinted, printed};
 use base::number::lesser;
 use checks::planner::plan_code;
 use layer::numbers::layer_of;
 use layer::shape::Layer;
 use layer::sizes;
-use text::lines;
-use text::words;
 
 // Map and kernel, and no word after them.
 fn read_body(text: &[u8], at: usize, map: &mut [i16], kernel: &mut [i16]) -> bool
@@ -50,20 +48,19 @@ fn is_small(layer: Layer) -> bool
     sizes::output_count(layer) <= 1024
 }
 
-// A run, and its lines.
-fn put_run(
+// A run, and its lines. The output buffer is as long as the layer's count.
+fn put_outputs(
     lines: &mut [u8],
     layer: Layer,
     map: &[i16],
     kernel: &[i16],
     output: &mut [i32],
-    scratch: &mut [u64],
 ) -> usize
-    requires { ⌜ Planned layer × (length (now output) ≡ outputCount layer) × (outputCount layer ≤ 1024) ⌝ }
-    requires { ⌜ (length (now scratch) ≡ 3072) × (length (now lines) ≡ 16384) ⌝ }
+    requires { ⌜ Planned layer × (length (now output) ≡ outputCount layer) × (outputCount layer ≤ 1024) × (length (now lines) ≡ 16384) ⌝ }
     ensures { λ r. ⌜ Appended 0 (ran layer (now (map .entry)) (now (kernel .entry))) (now (lines .entry)) (now (lines .exit)) r ⌝ }
 {
-    let progress = engine::run(layer, map, kernel, output, scratch);
+    let mut scratch = [0u64; 3072];
+    let progress = engine::run(layer, map, kernel, output, &mut scratch);
     if progress.code != 0 {
         return lines::put_numbered(lines, 0, b"refused", progress.code);
     }
@@ -71,7 +68,17 @@ fn put_run(
     lines::put_rows(lines, at, output, layer.columns)
 }
 
-// Map and kernel are read, and the layer is run on them. The buffers are as long as the layer's counts.
+// The same with a buffer for the outputs.
+fn put_run(lines: &mut [u8], layer: Layer, map: &[i16], kernel: &[i16]) -> usize
+    requires { ⌜ Planned layer × (small layer ≡ true) × (length (now lines) ≡ 16384) ⌝ }
+    ensures { λ r. ⌜ Appended 0 (ran layer (now (map .entry)) (now (kernel .entry))) (now (lines .entry)) (now (lines .exit)) r ⌝ }
+{
+    let mut output = [0i32; 1024];
+    let outputs = sizes::output_count(layer);
+    put_outputs(lines, layer, map, kernel, &mut output[..outputs])
+}
+
+// Map and kernel are read, and the layer is run on them. Their buffers are as long as the layer's counts.
 fn put_read(
     lines: &mut [u8],
     layer: Layer,
@@ -79,62 +86,41 @@ fn put_read(
     at: usize,
     map: &mut [i16],
     kernel: &mut [i16],
-    output: &mut [i32],
-    scratch: &mut [u64],
 ) -> usize
-    requires { ⌜ Planned layer × (small layer ≡ true) × (at ≤ length (now text)) ⌝ }
-    requires { ⌜ (length (now map) ≡ mapCount layer) × (length (now kernel) ≡ kernelCount layer) × (length (now output) ≡ outputCount layer) ⌝ }
-    requires { ⌜ (length (now scratch) ≡ 3072) × (length (now lines) ≡ 16384) ⌝ }
+    requires { ⌜ Planned layer × (small layer ≡ true) × (at ≤ length (now text)) × (length (now lines) ≡ 16384) ⌝ }
+    requires { ⌜ (length (now map) ≡ mapCount layer) × (length (now kernel) ≡ kernelCount layer) ⌝ }
     ensures { λ r. ⌜ Appended 0 (bodyPrinted layer false (wordsOf false (drop at (now (text .entry))))) (now (lines .entry)) (now (lines .exit)) r ⌝ }
 {
     if !read_body(text, at, map, kernel) {
         return lines::put_unreadable(lines, 0);
     }
-    put_run(lines, layer, map, kernel, output, scratch)
+    put_run(lines, layer, map, kernel)
 }
 
 // The lines after a header that the checks 1 to 9 accept.
-fn put_body(
-    lines: &mut [u8],
-    layer: Layer,
-    text: &[u8],
-    at: usize,
-    map: &mut [i16],
-    kernel: &mut [i16],
-    output: &mut [i32],
-    scratch: &mut [u64],
-) -> usize
-    requires { ⌜ Planned layer × (at ≤ length (now text)) × (length (now lines) ≡ 16384) × (length (now scratch) ≡ 3072) ⌝ }
-    requires { ⌜ (length (now map) ≡ 1024) × (length (now kernel) ≡ 512) × (length (now output) ≡ 1024) ⌝ }
+fn put_body(lines: &mut [u8], layer: Layer, text: &[u8], at: usize) -> usize
+    requires { ⌜ Planned layer × (at ≤ length (now text)) × (length (now lines) ≡ 16384) ⌝ }
     ensures { λ r. ⌜ Appended 0 (bodyPrinted layer false (wordsOf false (drop at (now (text .entry))))) (now (lines .entry)) (now (lines .exit)) r ⌝ }
 {
     if !is_small(layer) {
         return lines::put_unreadable(lines, 0);
     }
+    let mut map = [0i16; 1024];
+    let mut kernel = [0i16; 512];
     let values = sizes::map_count(layer);
     let weights = sizes::kernel_count(layer);
-    let outputs = sizes::output_count(layer);
     put_read(
         lines,
         layer,
         text,
         at,
-        &mut map[0..values],
-        &mut kernel[0..weights],
-        &mut output[0..outputs],
-        scratch,
+        &mut map[..values],
+        &mut kernel[..weights],
     )
 }
 
-// The first bytes of `lines` become what the bench program prints; their count is the answer. The other buffers are worked in.
-pub fn answer(
-    lines: &mut [u8; 16384],
-    input: &[u8],
-    map: &mut [i16; 1024],
-    kernel: &mut [i16; 512],
-    output: &mut [i32; 1024],
-    scratch: &mut [u64; 3072],
-) -> usize
+// The first bytes of `lines` become what the bench program prints; their count is the answer.
+pub fn answer(lines: &mut [u8; 16384], input: &[u8]) -> usize
     ensures { λ r. ⌜ (r ≤ length (now (lines .exit))) × (take r (now (lines .exit)) ≡ printed (now (input .entry))) ⌝ }
 {
     let long = input.len() > 16384;
@@ -153,5 +139,5 @@ pub fn answer(
     if long {
         return lines::put_unreadable(lines, 0);
     }
-    put_body(lines, layer, text, header.at, map, kernel, output, scratch)
+    put_body(lines, layer, text, header.at)
 }

@@ -2,9 +2,9 @@
 ghost use Prim.Native.Nat.{_≤_};
 ghost use lib.ListN.{length};
 use crate::print;
-use crate::sequence::draw_values;
 use engine::job::Job;
 use layer::shape::Layer;
+use vectors::sequence::draw_values;
 
 // What a call with that budget answers.
 fn print_answer(budget: u64, code: u64, count: u64, next: u64, done: u64) {
@@ -36,29 +36,18 @@ fn stop(job: Job, budget: usize, map: &[i16], kernel: &[i16], output: &mut [i32]
     progress.job
 }
 
-// Two calls.
-fn stops(
-    job: Job,
-    first: usize,
-    second: usize,
-    map: &[i16],
-    kernel: &[i16],
-    output: &mut [i32],
-) -> Job
-    requires { ⌜ length (now output) ≤ 1024 ⌝ }
-{
-    let moved = stop(job, first, map, kernel, output);
-    stop(moved, second, map, kernel, output)
-}
-
 // A whole job: none of its tiles, one, one in a call without a map, two, all that are left, and one more when all is done.
-fn in_budgets(job: Job, map: &[i16], kernel: &[i16], output: &mut [i32])
+fn in_budgets(start: Job, map: &[i16], kernel: &[i16], output: &mut [i32])
     requires { ⌜ length (now output) ≤ 1024 ⌝ }
 {
-    let one = stops(job, 0, 1, map, kernel, output);
-    let refused = stop(one, 1, &map[0..0], kernel, output);
-    let all = stops(refused, 2, 18446744073709551615, map, kernel, output);
-    stop(all, 1, map, kernel, output);
+    let budgets = [0usize, 1, 1, 2, 18446744073709551615, 1];
+    let mut job = start;
+    let mut i = 0;
+    while i < 6 {
+        let values = if i == 2 { 0 } else { map.len() };
+        job = stop(job, budgets[i], &map[0..values], kernel, output);
+        i += 1;
+    }
 }
 
 // A whole job in budgets, and then one whose index is above the total.

@@ -3,11 +3,9 @@
 mod charts;
 mod jobs;
 mod print;
-mod sequence;
-mod vectors;
 
 fn main() {
-    vectors::run();
+    vectors::pairs::run();
     charts::run();
     jobs::run();
 }

@@ -2,7 +2,7 @@
 ghost use Prim.Native.Nat.{_<_, _≤_};
 ghost use lib.ListN.{length};
 use libc::STDOUT_FILENO;
-use text::lines::put_rows;
+use lines::put_rows;
 
 // A word and a number, and a space.
 pub fn number(word: &[u8], n: u64) {

@@ -2,4 +2,3 @@
 mod PartsWritten
 mod Scratch
 mod Outcomes
-mod ThreeCalls

@@ -1,14 +1,11 @@
 -- What a call comes to, by its code: refused where the code is not 0, accepted where it is 0. A call that is refused is so with every
--- budget, and so is that of a layer whose plan is refused. No call changes the length of a buffer. It rests on what the code 0 says of a
--- call, and on the laws of finished parts.
+-- budget, and so is that of a layer whose plan is refused. It rests on what the code 0 says of a call.
 use mathlib.Core.Path.{_≡_, refl, sym, ap, _∙_}
 use mathlib.Core.List.{List}
 use Prim.Native.Nat.{ℕ, zero, suc, _+_}
 use native.Mathlib.Omega.{arith}
 use lib.IntN.{ℤ}
 use lib.ListN.{length}
-use Rattle.algebra.specs.PlacesLaws.{length-table}
-use Rattle.base.specs.Rules.{outcome}
 use Rattle.base.specs.RulesLaws.{outcome-made, outcome-lent}
 use Rattle.layer.specs.declared.shape.Layer.{Layer}
 use Rattle.checks.specs.Engine.{Engine}
@@ -17,7 +14,6 @@ use Rattle.checks.specs.ChecksLaws.{run-plans, job-runs}
 use Rattle.engine.specs.declared.job.Job.{Job}
 use Rattle.engine.specs.declared.job.Progress.{Progress}
 use Rattle.engine.specs.Call.{startOf, countOf, accepted, refused, finished, cleared, callCode, Called}
-use Rattle.engine.specs.FinishedLaws.{length-finished}
 
 module _ (engine : Engine) (job : Job) (budget : ℕ) (map kernel output : List ℤ) (scratch : List ℕ) where
   abbrev code : ℕ
@@ -68,24 +64,3 @@ planned-budget {progress} {output-left} {scratch-left} engine l map kernel outpu
     by-plan (suc code) e call =
         refused-any-budget engine (startOf l) (engine .total l) map kernel output scratch 0
         (λ kept. omega (arith, e, run-plans engine l map kernel _ _ (job-runs engine l map kernel _ _ 0 kept .0))) call
-
--- ---- lengths
-
-outcome-length : {A : Type 0} (made lent left : List A) (code : ℕ) → left ≡ outcome code made lent → length made ≡ length lent
-    → length left ≡ length lent
-outcome-length made lent left zero e same = ap length e ∙ same
-outcome-length made lent left (suc code) e same = ap length e
-
-module _ {engine : Engine} {job : Job} {budget : ℕ} {map kernel output : List ℤ} {scratch : List ℕ}
-    {progress : Progress} {output-left : List ℤ} {scratch-left : List ℕ}
-    (call : Called engine job budget map kernel output scratch progress output-left scratch-left)
-  where
-    pub output-length : length output-left ≡ length output
-    output-length =
-        outcome-length _ _ _ (callCode engine job map kernel (length output) (length scratch)) (call .writes)
-        (length-finished engine (job .layer) map kernel (job .next) (job .next + countOf engine job budget) output)
-
-    pub scratch-length : length scratch-left ≡ length scratch
-    unfolding cleared
-    scratch-length =
-        outcome-length _ _ _ (callCode engine job map kernel (length output) (length scratch)) (call .clears) (length-table (length scratch) _)

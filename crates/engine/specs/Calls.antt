@@ -1,11 +1,9 @@
 -- 01, "The two product sums": a list of calls of one layer's job, all of one engine. Each call takes the job and the output buffer as the one
 -- before left them; budget and scratch may differ from call to call; a refused call may have been lent any map and kernel.
 use mathlib.Core.Path.{_≡_}
-use mathlib.Core.Bool.{Bool, true}
 use mathlib.Core.List.{List, [], _∷_}
 use Prim.Native.Nat.{ℕ, _+_, _≤_, _<_}
 use lib.IntN.{ℤ}
-use lib.ListN.{length}
 use Rattle.base.specs.Rules.{outcome}
 use Rattle.layer.specs.declared.shape.Layer.{Layer}
 use Rattle.checks.specs.Engine.{Engine}
@@ -68,11 +66,3 @@ module _ {engine : Engine} {l : Layer} {map kernel : List ℤ} where
   pub record Reaches (list : JobCalls engine l map kernel) : Type 0 where
     pub some : 0 < acceptedCalls (list .calls)
     pub enough : engine .total l ≤ acceptedBudgets (list .calls)
-
--- the buffer held `first` and then `left`: a list of calls made it so, one of them refused. Where `reaches` is true, the budgets reach the total
-pub record CallsMade (engine : Engine) (l : Layer) (map kernel first left : List ℤ) (reaches : Bool) : Type 0 where
-  pub list : JobCalls engine l map kernel
-  pub starts : list .first ≡ first
-  pub ends : outputOf list ≡ left
-  pub one-refused : acceptedCalls (list .calls) < length (list .calls)
-  pub enough : reaches ≡ true → Reaches list

@@ -1,5 +1,5 @@
--- What a list of calls comes to: the job and the output after it, by the sum of the accepted calls' budgets. It rests on the
--- laws of the checks and on those of finished parts.
+-- What a call answers and keeps, and what a list of calls comes to: the job and the output after it, by the sum of the accepted calls'
+-- budgets. It rests on the laws of the checks and on those of finished parts.
 use mathlib.Core.Path.{_≡_, refl, sym, ap, _∙_}
 use mathlib.Core.List.{List, [], _∷_}
 use Prim.Native.Nat.{ℕ, zero, suc, _+_, _-_, _<_, min}
@@ -8,6 +8,7 @@ use native.Mathlib.Omega.{arith}
 use lib.IntN.{ℤ}
 use lib.ListN.{length}
 use Rattle.algebra.specs.Places.{table}
+use Rattle.algebra.specs.PlacesLaws.{length-table}
 use Rattle.base.specs.Rules.{outcome}
 use Rattle.layer.specs.declared.shape.Layer.{Layer}
 use Rattle.layer.specs.Direct.{directAt}
@@ -16,22 +17,42 @@ use Rattle.checks.specs.Engine.{Engine, Lawful}
 use Rattle.checks.specs.ChecksLaws.{job-callable}
 use Rattle.engine.specs.declared.job.Job.{Job}
 use Rattle.engine.specs.declared.job.Progress.{Progress}
-use Rattle.engine.specs.Call.{startOf, countOf, accepted, refused, finished, callCode, Called}
+use Rattle.engine.specs.Call.{startOf, countOf, accepted, refused, finished, cleared, callCode, Called}
 use Rattle.engine.specs.Calls.{Call, Chained, jobAfter, outputAfter, acceptedCalls, acceptedBudgets, JobCalls, outputOf, Reaches}
-use Rattle.engine.specs.FinishedLaws.{finished-none, finished-then, finished-all}
+use Rattle.engine.specs.FinishedLaws.{length-finished, finished-none, finished-then, finished-all}
 
 -- ---- one call
 
--- the code is what the checks answer
-pub called-code : {engine : Engine} {job : Job} {budget : ℕ} {map kernel output : List ℤ} {scratch : List ℕ} {progress : Progress}
-    {output-left : List ℤ} {scratch-left : List ℕ} → Called engine job budget map kernel output scratch progress output-left scratch-left
-    → progress .code ≡ callCode engine job map kernel (length output) (length scratch)
-called-code {engine} {job} {budget} {map} {kernel} {output} {scratch} called =
-    ap (λ (p : Progress). p .code) (called .answers) ∙ by-code (callCode engine job map kernel (length output) (length scratch))
+-- what is lent keeps its length, whether the call is refused or not
+outcome-length : {A : Type 0} (made lent left : List A) (code : ℕ) → left ≡ outcome code made lent → length made ≡ length lent
+    → length left ≡ length lent
+outcome-length made lent left zero e same = ap length e ∙ same
+outcome-length made lent left (suc code) e same = ap length e
+
+module _ {engine : Engine} {job : Job} {budget : ℕ} {map kernel output : List ℤ} {scratch : List ℕ}
+    {progress : Progress} {output-left : List ℤ} {scratch-left : List ℕ}
+    (call : Called engine job budget map kernel output scratch progress output-left scratch-left)
   where
-    by-code : (code : ℕ) → outcome code (accepted engine job (countOf engine job budget)) (refused job code) .code ≡ code
-    by-code zero = refl
-    by-code (suc code) = refl
+    abbrev called : ℕ
+    called = callCode engine job map kernel (length output) (length scratch)
+
+    -- the code is what the checks answer
+    pub called-code : progress .code ≡ called
+    called-code = ap (λ (p : Progress). p .code) (call .answers) ∙ by-code called
+      where
+        by-code : (code : ℕ) → outcome code (accepted engine job (countOf engine job budget)) (refused job code) .code ≡ code
+        by-code zero = refl
+        by-code (suc code) = refl
+
+    -- no call changes the length of a buffer
+    pub output-length : length output-left ≡ length output
+    output-length =
+        outcome-length _ _ _ called (call .writes)
+        (length-finished engine (job .layer) map kernel (job .next) (job .next + countOf engine job budget) output)
+
+    pub scratch-length : length scratch-left ≡ length scratch
+    unfolding cleared
+    scratch-length = outcome-length _ _ _ called (call .clears) (length-table (length scratch) _)
 
 module _ {engine : Engine} where
   -- what an accepted call comes to

@@ -1,9 +1,7 @@
 -- definitions, in the order of the request
 pub mod Call
 pub mod Calls
-pub mod ProductSums
 -- laws
 pub mod FinishedLaws
 pub mod CallsLaws
 pub mod RunLaws
-pub mod ProductSumsLaws

@@ -8,7 +8,6 @@ ghost use Rattle.checks.specs.Engine.{tileEngine};
 ghost use Rattle.engine.specs.Call.{startOf, Called};
 
 pub mod job;
-pub mod pair;
 mod tiles;
 
 // A whole run: the job from tile 0 with the total as its budget. A refused plan has the total 0, and the job refuses it again.

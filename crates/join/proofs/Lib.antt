@@ -1,2 +1,1 @@
-mod Totals
 mod Fits

@@ -10,7 +10,7 @@ use Rattle.algebra.specs.Every.{every}
 use Rattle.base.specs.Rules.{Rule, rule, firstBroken, inside, outcome}
 use Rattle.layer.specs.declared.shape.Layer.{Layer}
 use Rattle.layer.specs.Shape.{kernelCount}
-use Rattle.join.specs.Joined.{joinedLayer, joinedAt, joinedKernel}
+use Rattle.joined.specs.Joined.{joinedLayer, joinedAt, joinedKernel}
 
 -- 26, of each layer: it is CONV with S 1 and P 0; C, M and K are in range
 abbrev pub figureRules : Layer → List Rule

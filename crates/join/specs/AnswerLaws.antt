@@ -11,10 +11,10 @@ use Rattle.base.specs.Rules.{firstBroken}
 use Rattle.base.specs.RulesLaws.{none-broken, inside-low, inside-high, outcome-made, both-accept}
 use Rattle.layer.specs.declared.shape.Layer.{Layer}
 use Rattle.layer.specs.Shape.{kernelCount}
-use Rattle.join.specs.Joinable.{Pair, Follows, Kept, Joinable}
-use Rattle.join.specs.Joined.{joinedLayer, joinedAt, joinedKernel, fullOutput}
+use Rattle.joined.specs.Joinable.{Pair, Follows, Kept, Joinable}
+use Rattle.joined.specs.Joined.{joinedLayer, joinedAt, joinedKernel, fullOutput}
 use Rattle.join.specs.Answer.{filterRules, pairRules, fits, weightsFit, weightRules, shapeRules, joinCode, joinLeft}
-use Rattle.join.specs.JoinLaw.{join-law}
+use Rattle.joined.specs.JoinLaw.{join-law}
 
 -- ---- one layer
 

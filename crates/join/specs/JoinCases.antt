@@ -10,7 +10,7 @@ use Rattle.algebra.specs.Places.{table}
 use Rattle.base.specs.Rules.{inside}
 use Rattle.layer.specs.declared.shape.Layer.{Layer}
 use Rattle.layer.specs.Numbers.{layerOf}
-use Rattle.join.specs.Joined.{joinedWeight, joinedAt}
+use Rattle.joined.specs.Joined.{joinedWeight, joinedAt}
 use Rattle.join.specs.Answer.{weightsFit, joinCode, joinLeft}
 
 -- a filter of this stride; the figures that are left out are 0

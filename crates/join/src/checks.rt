@@ -1,7 +1,7 @@
 // The checks of `join`, in the order of its answers: 26 of each layer, 26 and 27 of the two, 28 of all weights.
-use crate::places::joined_layer;
-use crate::weight::weight_at;
 use base::rules;
+use joined::places::joined_layer;
+use joined::weight::weight_at;
 use layer::shape::Layer;
 use layer::sizes;
 ghost use mathlib.Core.Path.{_≡_};
@@ -9,8 +9,8 @@ ghost use Prim.Native.Nat.{_≤_};
 ghost use lib.ListN.{length};
 ghost use Rattle.base.specs.Rules.{firstBroken};
 ghost use Rattle.layer.specs.Shape.{kernelCount};
-ghost use Rattle.join.specs.Joinable.{Joinable};
-ghost use Rattle.join.specs.Joined.{joinedLayer};
+ghost use Rattle.joined.specs.Joinable.{Joinable};
+ghost use Rattle.joined.specs.Joined.{joinedLayer};
 ghost use Rattle.join.specs.Answer.{filterRules, pairRules, shapeRules, fits, weightsFit, joinCode};
 
 // 26 where a layer is not CONV with S 1 and P 0, a figure is out of range, or its weights are not as many as its figures say; else 0.

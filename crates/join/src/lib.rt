@@ -1,18 +1,16 @@
 // Two filters joined: one kernel for the second of two CONV layers over the first. `join` checks the layers, the lengths and every weight
 // first, and leaves a refused kernel as it was.
+use joined::weight::weight_at;
 use layer::shape::Layer;
 ghost use mathlib.Core.Path.{_≡_};
 ghost use mathlib.Core.Bool.{true};
 ghost use lib.ListN.{length};
 ghost use Rattle.layer.specs.Shape.{kernelCount};
-ghost use Rattle.join.specs.Joinable.{Joinable};
-ghost use Rattle.join.specs.Joined.{joinedLayer, joinedKernel};
+ghost use Rattle.joined.specs.Joinable.{Joinable};
+ghost use Rattle.joined.specs.Joined.{joinedLayer, joinedKernel};
 ghost use Rattle.join.specs.Answer.{weightsFit, joinCode, joinLeft};
 
 mod checks;
-mod places;
-mod sums;
-mod weight;
 
 // Writes every weight; each was found to fit.
 fn write_weights(
@@ -29,7 +27,7 @@ fn write_weights(
 {
     let mut p = 0;
     while p < joined.len() {
-        let weight = weight::weight_at(first, first_kernel, second, second_kernel, p);
+        let weight = weight_at(first, first_kernel, second, second_kernel, p);
         let value = weight as i16;
         joined[p] = value;
         p += 1;

@@ -24,9 +24,10 @@ same-length-2 c = search needs
 returns : tie.Need-returns
 returns c =
     let call = c .before .before .before in
-    let g = call .before .before .before .before .before .before .args in
+    let made = call .before .before .before in
+    let g = made .before .before .before .args in
     planned-budget tileEngine (g .layer) (now (g .map)) (now (g .kernel)) (now (g .output)) (now (g .scratch))
-    (rw (call .before .before .before .before .plan .ensures, call .before .before .before .new .ensures) at (call .advance .ensures))
+    (rw (made .before .plan .ensures, made .new .ensures) at (call .advance .ensures))
 
 pub run-spec : {M : Type 1} → statement M
 run-spec = tie.close (tie.spec plan-requires new-requires advance-requires same-length same-length-2 returns)

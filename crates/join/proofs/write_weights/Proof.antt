@@ -12,7 +12,7 @@ use mir.Val.{SFits, toZ, ofZ}
 use Rattle.algebra.specs.Places.{Written, Run}
 use Rattle.algebra.specs.PlacesLaws.{table-of, written-nothing, written-longer}
 use Rattle.layer.specs.Shape.{kernelCount}
-use Rattle.join.specs.Joined.{joinedLayer, joinedAt}
+use Rattle.joined.specs.Joined.{joinedLayer, joinedAt}
 use Rattle.join.specs.AnswerLaws.{weight-fit}
 use Rattle.join.proofs.Fits.{fit-sfits}
 use Rattle.join.proofs.write_weights.Statement.{statement}

@@ -13,8 +13,8 @@ use Rattle.checks.specs.Engine.{tileEngine}
 use Rattle.checks.specs.Checks.{planCode}
 use Rattle.checks.specs.ChecksLaws.{planned}
 use Rattle.checks.specs.EngineLaws.{tile-lawful}
-use Rattle.text.specs.Words.{wordsOf, figuresOf}
-use Rattle.text.specs.WritingLaws.{append-within}
+use Rattle.words.specs.Words.{wordsOf, figuresOf}
+use Rattle.lines.specs.WritingLaws.{append-within}
 use Rattle.bench_text.specs.Printed.{isLong, inputWords, headerReads}
 use Rattle.bench_text.proofs.Headers.{take-min, headerLayer, header-unread, layer-refused, long-unread, body-follows}
 use Rattle.bench_text.proofs.answer.answer.Statement.{statement}
@@ -122,15 +122,13 @@ returns-3 c =
 
 put-body-requires : tie.Need-put-body-requires
 put-body-requires c κs =
-    let e = c .before .before .before .before .before .before in
-    let p = e .before in (
-      (planned tile-lawful _ (sym (p .plan-code .ensures) ∙ e .if2 .left), header p .read-header .ensures .0 .short, search needs, search needs),
-      (search needs, search needs, search needs),
-    )
+    let short = c .before in
+    let p = short .before .before in
+    (planned tile-lawful _ (sym (p .plan-code .ensures) ∙ short .before .if2 .left), header p .read-header .ensures .0 .short, search needs)
 
 returns-4 : tie.Need-returns-4
 returns-4 c =
-    let short = c .before .before .before .before .before .before in
+    let short = c .before .before in
     let p = short .before .before in
     rw (← body-follows (input (header p)) (header-there p) (accepted (short .before)) (layer-is p) (body-is short) (short .if3 .left))
     (append-within (c .put-body .ensures), c .put-body .ensures .shown)

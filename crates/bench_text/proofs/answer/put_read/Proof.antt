@@ -5,21 +5,21 @@ use borrow.Author.Tests.{not-true, not-false}
 use denote.Ref.{now}
 use lib.ListN.{drop}
 use Rattle.layer.specs.Shape.{mapCount, kernelCount}
-use Rattle.text.specs.Words.{wordsOf}
-use Rattle.text.specs.Reading.{BodyRead}
+use Rattle.words.specs.Words.{wordsOf}
+use Rattle.words.specs.Reading.{BodyRead}
 use Rattle.bench_text.proofs.Bodies.{unread-printed, read-printed}
-use Rattle.bench_text.proofs.Counts.{small-output}
 use Rattle.bench_text.proofs.answer.put_read.Statement.{statement}
 use Rattle.bench_text.proofs.answer.put_read.Tie as tie
 
+-- map and kernel are read
 module _ (c : tie.After-read-body) where
   abbrev start : tie.Start
-  start = c .before .before .before .before .before .before
+  start = c .before .before .before .before .before
 
   read : let g = start .args in
       BodyRead (wordsOf false (drop (g .at) (now (g .text)))) (mapCount (g .layer)) (kernelCount (g .layer))
       (c .read-body .last .1 .1 .0) (c .read-body .last .1 .1 .1 .0) (c .read-body .result)
-  read = rw (start .pre .1 .0 .0, start .pre .1 .0 .1) at (c .read-body .ensures)
+  read = rw (start .pre .1 .0, start .pre .1 .1) at (c .read-body .ensures)
 
 read-body-requires : tie.Need-read-body-requires
 read-body-requires c κs = search needs
@@ -38,16 +38,14 @@ same-length-3 c = search needs
 
 returns : tie.Need-returns
 returns c =
-    let unread = c .before .before .before .before in
+    let put = c .before .before in
+    let unread = put .before .before in
     let body = unread .before .before .before in
     let s = start body in
-    rw (unread-printed (s .args .layer) (s .pre .0 .1) (read body) (not-true _ (unread .if1 .taken))) (c .before .before .put-unreadable .ensures)
+    rw (unread-printed (s .args .layer) (s .pre .0 .1) (read body) (not-true _ (unread .if1 .taken))) (put .put-unreadable .ensures)
 
 put-run-requires : tie.Need-put-run-requires
-put-run-requires c κs =
-    let s = start (c .before .before .before .before .before .before .before .before) in
-    let l = s .args .layer in
-    ((s .pre .0 .0, s .pre .1 .0 .2, small-output l (s .pre .0 .1)), s .pre .1 .1)
+put-run-requires c κs = search needs
 
 same-length-4 : tie.Need-same-length-4
 same-length-4 c = search needs
@@ -58,16 +56,10 @@ same-length-5 c = search needs
 same-length-6 : tie.Need-same-length-6
 same-length-6 c = search needs
 
-same-length-7 : tie.Need-same-length-7
-same-length-7 c = search needs
-
-same-length-8 : tie.Need-same-length-8
-same-length-8 c = search needs
-
 returns-2 : tie.Need-returns-2
 returns-2 c =
-    let run = c .before .before .before .before .before in
-    let whole = run .before .before .before .before .before .before in
+    let run = c .before .before in
+    let whole = run .before .before .before .before in
     let body = whole .before .before .before in
     let s = start body in
     rw (read-printed (s .args .layer) (s .pre .0 .1) (read body) (not-false _ (whole .if1 .left))) (run .put-run .ensures)
@@ -86,6 +78,4 @@ put-read-spec =
     same-length-4
     same-length-5
     same-length-6
-    same-length-7
-    same-length-8
     returns-2)

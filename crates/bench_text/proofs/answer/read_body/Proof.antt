@@ -8,7 +8,7 @@ use borrow.Author.Needs.{needs}
 use borrow.Author.Tests.{not-true, not-false}
 use denote.Ref.{now}
 use lib.ListN.{length, drop}
-use Rattle.text.specs.Words.{wordsOf}
+use Rattle.words.specs.Words.{wordsOf}
 use Rattle.bench_text.proofs.Bodies.{map-missing, kernel-missing, body-there}
 use Rattle.bench_text.proofs.answer.read_body.Statement.{statement}
 use Rattle.bench_text.proofs.answer.read_body.Tie as tie

@@ -2,7 +2,7 @@
 use mathlib.Core.Path.{sym}
 use borrow.Author.Needs.{needs}
 use lib.Seq.{length-take-le}
-use Rattle.text.specs.WritingLaws.{append-within}
+use Rattle.lines.specs.WritingLaws.{append-within}
 use Rattle.cases.proofs.print.rows.Statement.{statement}
 use Rattle.cases.proofs.print.rows.Tie as tie
 

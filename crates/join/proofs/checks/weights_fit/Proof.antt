@@ -11,7 +11,7 @@ use mir.Facts.{toZ-ofZ}
 use Rattle.algebra.specs.Every.{every}
 use Rattle.algebra.specs.EveryLaws.{every-fails, every-holds}
 use Rattle.layer.specs.Shape.{kernelCount}
-use Rattle.join.specs.Joined.{joinedLayer, joinedAt}
+use Rattle.joined.specs.Joined.{joinedLayer, joinedAt}
 use Rattle.join.specs.Answer.{fits, weightsFit}
 use Rattle.join.proofs.checks.weights_fit.Statement.{statement}
 use Rattle.join.proofs.checks.weights_fit.Tie as tie

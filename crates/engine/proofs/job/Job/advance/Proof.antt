@@ -5,7 +5,6 @@ use native.Mathlib.Omega.{arith}
 use lib.ListN.{length}
 use borrow.Author.Needs.{needs}
 use denote.Ref.{now}
-use Rattle.layer.specs.Planned.{Planned}
 use Rattle.layer.specs.Shape.{scratchWords, tileTotal}
 use Rattle.checks.specs.Callable.{Callable}
 use Rattle.checks.specs.Engine.{tileEngine}
@@ -17,43 +16,58 @@ use Rattle.engine.proofs.Scratch.{changed-cleared}
 use Rattle.engine.proofs.job.Job.advance.Statement.{statement}
 use Rattle.engine.proofs.job.Job.advance.Tie as tie
 
--- what the code 0 says of the call
-module _ (c : tie.Else1) where
+-- the code is found
+module _ (c : tie.After-job-code) where
   abbrev start : tie.Start
-  start = c .before .before .before .before
+  start = c .before .before .before
 
-  accepts : let g = start .args in callCode tileEngine (g .self) (now (g .map)) (now (g .kernel)) (length (now (g .output))) (length (now (g .scratch))) ≡ 0
+-- it is 0: what that says of the call
+module _ (c : tie.Else1) where
+  abbrev call : tie.Start
+  call = start (c .before)
+
+  accepts : let g = call .args in callCode tileEngine (g .self) (now (g .map)) (now (g .kernel)) (length (now (g .output))) (length (now (g .scratch))) ≡ 0
   accepts = sym (c .before .job-code .ensures) ∙ c .if1 .left
 
-  called : let g = start .args in
+  passed : let g = call .args in
       Callable tileEngine (g .self .layer) (now (g .map)) (now (g .kernel)) (length (now (g .output))) (length (now (g .scratch)))
       × (g .self .next ≤ tileTotal (g .self .layer))
-  called =
-      let g = start .args in
+  passed =
+      let g = call .args in
       job-callable tileEngine (g .self .layer) (now (g .map)) (now (g .kernel)) (length (now (g .output))) (length (now (g .scratch))) tile-lawful
       (g .self .next) accepts
 
-  plan : Planned (start .args .self .layer)
-  plan = called .0 .plan
+-- the tiles are counted: they are at most those left
+module _ (c : tie.After-lesser) where
+  abbrev accepted : tie.Else1
+  accepted = c .before .before
 
--- the tiles counted are at most those left
-counted : (c : tie.After-lesser) → let job = start (c .before .before) .args .self in job .next + c .lesser .result ≤ tileTotal (job .layer)
-counted c = omega (arith, c .lesser .ensures, c .before .tile-total .ensures, called (c .before .before) .1)
+  counted : let job = call accepted .args .self in job .next + c .lesser .result ≤ tileTotal (job .layer)
+  counted = omega (arith, c .lesser .ensures, c .before .tile-total .ensures, passed accepted .1)
+
+-- they are finished
+module _ (c : tie.After-finish-tiles) where
+  abbrev count : tie.After-lesser
+  count = c .before .before .before
+
+-- and scratch is given back
+abbrev finish : tie.After-clear-arg → tie.After-finish-tiles
+finish c = c .before .before .before .before
 
 job-code-requires : tie.Need-job-code-requires
 job-code-requires c κs = search needs
 
 returns : tie.Need-returns
 returns c =
-    let g = c .before .before .before .before .args in
+    let g = start (c .before) .args in
     refused-call tileEngine (g .self) (g .budget) (now (g .map)) (now (g .kernel)) (now (g .output)) (now (g .scratch)) (c .before .job-code .result)
     (c .before .job-code .ensures) (c .if1 .taken)
 
 tile-total-requires : tie.Need-tile-total-requires
-tile-total-requires c κs = plan c
+tile-total-requires c κs = passed c .0 .plan
 
 sub-lesser : tie.Need-sub-lesser
-sub-lesser c = omega (arith, c .tile-total .ensures, called (c .before) .1)
+sub-lesser c = omega (arith, c .tile-total .ensures, passed (c .before) .1)
 
 lesser-requires : tie.Need-lesser-requires
 lesser-requires c κs = search needs
@@ -64,15 +78,15 @@ add-to c = search needs
 finish-tiles-requires : tie.Need-finish-tiles-requires
 finish-tiles-requires c κs =
     let count = c .before .before in
-    (called (count .before .before) .0, (omega arith, counted count))
+    (passed (accepted count) .0, (omega arith, counted count))
 
 scratch-words-requires : tie.Need-scratch-words-requires
-scratch-words-requires c κs = plan (c .before .before .before .before .before .before .before .before .before) .shape
+scratch-words-requires c κs = passed (accepted (count (finish c))) .0 .plan .shape
 
 clear-requires : tie.Need-clear-requires
 clear-requires c κs =
-    let tiles = c .before .before .before .before .before in
-    let given = called (tiles .before .before .before .before .before) .0 in
+    let tiles = finish (c .before) in
+    let given = passed (accepted (count tiles)) .0 in
     (omega arith, omega (arith, c .scratch-words .ensures, tiles .finish-tiles .ensures .1 .same-length, given .scratch-low))
 
 same-length : tie.Need-same-length
@@ -83,16 +97,17 @@ same-length-2 c = search needs
 
 returns-2 : tie.Need-returns-2
 returns-2 c =
-    let finished = c .before .before .before .before .before .before .before .before in
-    let count = finished .before .before .before in
-    let else = count .before .before in
-    let g = start else .args in
-    let is = rw (count .before .tile-total .ensures) at (count .lesser .ensures) in
-    let none = rw (c .before .before .before .scratch-words .ensures) at (c .before .before .clear .ensures) in
-    rw (count .before .tile-total .ensures)
-    (accepted-call tileEngine (g .self) (g .budget) (now (g .map)) (now (g .kernel)) (now (g .output)) (now (g .scratch)) (count .lesser .result)
-    (accepts else) is (finished .finish-tiles .ensures .0)
-    (changed-cleared (scratchWords (g .self .layer)) (called else .0 .scratch-low) (finished .finish-tiles .ensures .1) none))
+    let cleared = c .before .before in
+    let tiles = cleared .before .before .before .before .before .before in
+    let n = tiles .before .before .before in
+    let else = n .before .before in
+    let g = call else .args in
+    let is = rw (n .before .tile-total .ensures) at (n .lesser .ensures) in
+    let none = rw (cleared .before .scratch-words .ensures) at (cleared .clear .ensures) in
+    rw (n .before .tile-total .ensures)
+    (accepted-call tileEngine (g .self) (g .budget) (now (g .map)) (now (g .kernel)) (now (g .output)) (now (g .scratch)) (n .lesser .result)
+    (accepts else) is (tiles .finish-tiles .ensures .0)
+    (changed-cleared (scratchWords (g .self .layer)) (passed else .0 .scratch-low) (tiles .finish-tiles .ensures .1) none))
 
 pub advance-spec : {M : Type 1} → statement M
 advance-spec =

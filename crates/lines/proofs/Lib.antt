@@ -1,0 +1,2 @@
+-- a law that the proofs share
+mod SignedDecimals

@@ -1,0 +1,55 @@
+// Two lists of calls that are made, one of each kind: for paired layers the two product sums agree, by the theorem on lists of calls.
+use checks::planner;
+use engine::job::Job;
+use layer::shape::Layer;
+ghost use mathlib.Core.Path.{_≡_};
+ghost use mathlib.Core.Bool.{true, _&&_};
+ghost use lib.Dec.{eqb};
+ghost use lib.ListN.{length};
+ghost use Rattle.checks.specs.Engine.{tileEngine};
+ghost use Rattle.checks.specs.Checks.{runCode};
+ghost use Rattle.product_sums.specs.ProductSums.{Paired, SumsAgree};
+ghost use Rattle.product_sums.specs.CallsMade.{CallsMade};
+
+// Three calls of a layer's job: one with the budget, one that is lent no map value and thus is refused, one with the total. Whether the last
+// one is accepted, which is whether a run is.
+fn three_calls(
+    layer: Layer,
+    budget: usize,
+    map: &[i16],
+    kernel: &[i16],
+    output: &mut [i32],
+    scratch: &mut [u64],
+) -> bool
+    ensures { λ r. ⌜ r ≡ eqb (runCode tileEngine layer (now (map .entry)) (now (kernel .entry)) (length (now (output .entry))) (length (now (scratch .entry)))) 0 ⌝ }
+    ensures { λ r. ⌜ CallsMade tileEngine layer (now (map .entry)) (now (kernel .entry)) (now (output .entry)) (now (output .exit)) r ⌝ }
+{
+    let plan = planner::plan(layer);
+    let job = Job::new(layer);
+    let first = job.advance(budget, map, kernel, output, scratch);
+    let after_first = first.job;
+    let second = after_first.advance(budget, &map[0..0], kernel, output, scratch);
+    let after_second = second.job;
+    let third = after_second.advance(plan.tiles, map, kernel, output, scratch);
+    third.code == 0
+}
+
+// Both kinds, with one kernel. Whether both layers are accepted; then both lists reach their totals.
+pub fn both_kinds(
+    conv: Layer,
+    tconv: Layer,
+    budget: usize,
+    x: &[i16],
+    y: &[i16],
+    kernel: &[i16],
+    u: &mut [i32],
+    v: &mut [i32],
+    scratch: &mut [u64],
+) -> bool
+    ensures { λ r. ⌜ r ≡ eqb (runCode tileEngine conv (now (x .entry)) (now (kernel .entry)) (length (now (u .entry))) (length (now (scratch .entry)))) 0 && eqb (runCode tileEngine tconv (now (y .entry)) (now (kernel .entry)) (length (now (v .entry))) (length (now (scratch .entry)))) 0 ⌝ }
+    ensures { λ r. ⌜ (Paired conv tconv → r ≡ true → SumsAgree conv (now (x .entry)) (now (y .entry)) (now (u .exit)) (now (v .exit))) ⌝ }
+{
+    let forward = three_calls(conv, budget, x, kernel, u, scratch);
+    let backward = three_calls(tconv, budget, y, kernel, v, scratch);
+    forward && backward
+}

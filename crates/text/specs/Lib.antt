@@ -1,9 +1,0 @@
--- definitions, in the order of the request
-pub mod Words
-pub mod Lines
--- what the code promises on the way
-pub mod Reading
-pub mod Writing
--- laws
-pub mod DecimalLaws
-pub mod WritingLaws

@@ -1,0 +1,3 @@
+// What the program `cases` draws, and what it writes of the transform pair.
+pub mod pairs;
+pub mod sequence;
