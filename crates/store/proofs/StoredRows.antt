@@ -1,15 +1,18 @@
 -- A row grows place by place, and the rows of a tile row by row. It rests on the laws of written places.
-use mathlib.Core.Path.{_≡_, sym, ap, ap₂, _∙_}
+use mathlib.Core.Path.{_≡_, ap, ap₂, _∙_}
 use mathlib.Core.Logic.{_⊎_, inl, inr}
 use mathlib.Core.List.{List}
 use Prim.Native.Nat.{ℕ, _+_, _*_, _-_, _/_, _%_, _^_, _<_, _≤_}
-use native.Mathlib.Nat.{div-add-mod', add-assoc, mul-le-mul-right}
+use native.Mathlib.Nat.{div-add-mod', add-assoc, add-sub-cancel-left, mul-le-mul-right}
 use native.Mathlib.Decide.{ℕ-discrete}
 use native.Mathlib.Omega.{arith}
 use lib.Arith.{digits-lt, digits-div, digits-mod}
 use lib.IntN.{ℤ}
 use lib.Pow.{pow-mono}
 use lib.ListN.{length, getD, set}
+use mir.Syntax.{w32}
+use mir.Val.{SFits, toZ, ofZ}
+use mir.Facts.{toZ-ofZ}
 use Rattle.algebra.specs.Places.{Run}
 use Rattle.algebra.specs.PlacesLaws.{written-nothing, written-longer, written-as, written-again}
 use Rattle.fermat.specs.Field.{transformLength}
@@ -26,10 +29,9 @@ module _ (offset at from step : ℕ) (words : List ℕ) {xs : List ℤ} where
   row-none = written-nothing (λ p h. omega arith)
 
   pub row-next : {ys : List ℤ} (i : ℕ) (x : ℤ) → at + i < length xs → RowStored offset at from step i words xs ys
-      → x ≡ lessOffset offset (getD words (from + i * step) 0) → RowStored offset at from step (i + 1) words xs (set ys (at + i) x)
-  row-next i x l w e =
-      let back : at + i - at ≡ i = omega arith in
-      written-longer at i x l w (e ∙ ap (λ (k : ℕ). lessOffset offset (getD words (from + k * step) 0)) (sym back))
+      → SFits w32 x → x ≡ lessOffset offset (getD words (from + i * step) 0)
+      → RowStored offset at from step (i + 1) words xs (set ys (at + i) (toZ w32 (ofZ w32 x)))
+  row-next i x l w fits e = written-longer at i _ l w (rw (add-sub-cancel-left at i) (toZ-ofZ fits ∙ e))
 
 -- ---- the words of the rows
 
@@ -42,11 +44,12 @@ words-within l h last i below =
 -- those of a row are there, and their values fit
 pub row-storable : (l : Layer) (rows columns : Held) (words : List ℕ) → transformLength (l .field) * transformLength (l .field) ≤ length words
     → WithWords l rows → WithWords l columns → RowsStorable l rows columns words → (r : ℕ) → r < rows .count
-    → RowStorable (offsetOf (l .field)) ((rows .word + r * gridStep l) * transformLength (l .field) + columns .word) (gridStep l) (columns .count) words
-row-storable l rows columns words square in-rows in-columns fit r below i less =
+    → {offset from step : ℕ} → offset ≡ offsetOf (l .field) → step ≡ gridStep l
+    → from ≡ (rows .word + r * gridStep l) * transformLength (l .field) + columns .word → RowStorable offset from step (columns .count) words
+row-storable l rows columns words square in-rows in-columns fit r below offset-is step-is from-is i less =
     let row : ℕ = (rows .word + r * gridStep l) * transformLength (l .field) in
-    let same : row + columns .word + i * gridStep l ≡ row + (columns .word + i * gridStep l) = add-assoc _ _ _ in
-    rw same (omega (arith, digits-lt (words-within l rows in-rows r below) (words-within l columns in-columns i less)), fit r i below less)
+    rw (offset-is, step-is, from-is, add-assoc row (columns .word) (i * gridStep l))
+    (omega (arith, digits-lt (words-within l rows in-rows r below) (words-within l columns in-columns i less)), fit r i below less)
 
 -- offset is at most that of F_5
 pub offset-high : (field : ℕ) → field ≤ 5 → offsetOf field ≤ 2147483648

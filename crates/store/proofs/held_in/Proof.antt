@@ -1,6 +1,6 @@
 -- `held_in` finds the first and the end; all its numbers are small. That they are right is shown in HeldLines.
 use mathlib.Core.Path.{_≡_}
-use Prim.Native.Nat.{_+_, _*_, _-_, _<_, _≤_, min}
+use Prim.Native.Nat.{_+_, _*_, _<_, _≤_, min}
 use native.Mathlib.Nat.{mul-le-mul}
 use native.Mathlib.Omega.{arith}
 use borrow.Author.Needs.{needs}
@@ -26,31 +26,31 @@ bounds c =
       cond-le (isConv l) (p .shape .stride-high) (omega arith),
     )
 
-first-is : (c : tie.After-first-held) →
-    let a = c .before .before .before .args in
-    c .first-held .result ≡ ceilingDiv (a .tile * tileSide (a .layer)) (gridStep (a .layer))
-first-is c = rw (c .before .before .tile-side .ensures, c .before .grid-step .ensures) at (c .first-held .ensures)
+-- the first is found
+module _ (c : tie.After-first-held) where
+  abbrev sided : tie.After-tile-side
+  sided = c .before .before
 
-end-is : (c : tie.After-end-held) →
-    let a = c .before .before .before .before .args in
+  abbrev start : tie.Start
+  start = sided .before
+
+  first-is : let a = start .args in c .first-held .result ≡ ceilingDiv (a .tile * tileSide (a .layer)) (gridStep (a .layer))
+  first-is = cc
+
+end-is : (c : tie.After-end-held) → let a = start (c .before) .args in
     c .end-held .result ≡ min (ceilingDiv ((a .tile + 1) * tileSide (a .layer)) (gridStep (a .layer))) (a .count)
-end-is c = rw (c .before .before .before .tile-side .ensures, c .before .before .grid-step .ensures) at (c .end-held .ensures)
+end-is c = cc
 
 -- the first lies in the tile and before the end
-inside : (c : tie.After-end-held) →
-    let a = c .before .before .before .before .args in
-    let first = c .before .first-held .result in
-    let step = c .before .before .grid-step .result in
-    let side = c .before .before .before .tile-side .result in
-    (first < c .end-held .result) × (a .tile * side ≤ first * step) × (first * step < a .tile * side + side)
-    × (a .tile * side ≤ 8280 * 64) × (side ≤ 64)
+inside : (c : tie.After-end-held) → let tile = start (c .before) .args .tile in let first = c .before .first-held .result in
+    let step = c .before .before .grid-step .result in let side = sided (c .before) .tile-side .result in
+    (first < c .end-held .result) × (tile * side ≤ first * step) × (first * step < tile * side + side) × (tile * side ≤ 8280 * 64) × (side ≤ 64)
 inside c =
-    let s = c .before .before .before .before in
-    let held = first-held (s .args .layer) (s .pre .0) (s .args .tile) (s .args .count) _ _ (s .pre .1) (s .pre .2)
-    (first-is (c .before)) (end-is c) in
-    let (tile, side, _, _) = bounds s in
-    rw (c .before .before .before .tile-side .ensures, c .before .before .grid-step .ensures)
-    (held .0, held .1, held .2, mul-le-mul {n₂ = 8280} {m₂ = 64} (omega arith) side, side)
+    let s = start (c .before) in
+    let held = first-held _ (s .pre .0) _ _ _ _ (s .pre .1) (s .pre .2) (first-is (c .before)) (end-is c) in
+    let (some, low, high) = rw (← sided (c .before) .tile-side .ensures, ← c .before .before .grid-step .ensures) at held in
+    let side : sided (c .before) .tile-side .result ≤ 64 = omega (arith, bounds s) in
+    (some, low, high, mul-le-mul {n₂ = 8280} {m₂ = 64} (omega (arith, bounds s)) side, side)
 
 tile-side-requires : tie.Need-tile-side-requires
 tile-side-requires c κs = search needs
@@ -60,11 +60,11 @@ grid-step-requires c κs = search needs
 
 first-held-requires : tie.Need-first-held-requires
 first-held-requires c κs =
-    rw (c .before .tile-side .ensures, c .grid-step .ensures)
-    (omega (arith, bounds (c .before .before)), bounds (c .before .before) .1, bounds (c .before .before) .2, bounds (c .before .before) .3)
+    let (tile, side, some, step) = bounds (c .before .before) in
+    rw (c .before .tile-side .ensures, c .grid-step .ensures) (omega arith, side, some, step)
 
 end-held-requires : tie.Need-end-held-requires
-end-held-requires c κs = rw (c .before .before .tile-side .ensures, c .before .grid-step .ensures) (bounds (c .before .before .before))
+end-held-requires c κs = rw (c .before .before .tile-side .ensures, c .before .grid-step .ensures) (bounds (start c))
 
 sub-count-held : tie.Need-sub-count-held
 sub-count-held c = omega (arith, inside c)
@@ -82,14 +82,13 @@ sub-word-2 : tie.Need-sub-word-2
 sub-word-2 c = omega (arith, inside (c .before))
 
 add-word : tie.Need-add-word
-add-word c = omega (arith, inside (c .before), c .before .before .before .before .before .pre .0 .shape .side-high)
+add-word c = omega (arith, inside (c .before), start (c .before .before) .pre .0 .shape .side-high)
 
 returns : tie.Need-returns
 returns c =
-    let e = c .before in
-    let s = e .before .before .before .before in
-    held-by (s .args .layer) (s .pre .0) (s .args .tile) (s .args .count) _ _ (s .pre .1) (s .pre .2) (first-is (e .before)) (end-is e)
-    (rw (e .before .before .before .tile-side .ensures, e .before .before .grid-step .ensures))
+    let found = c .before .before in
+    let s = start found in
+    held-by _ (s .pre .0) _ _ _ _ (s .pre .1) (s .pre .2) (first-is found) (end-is (c .before)) (cc)
 
 pub held-in-spec : {M : Type 1} → statement M
 held-in-spec =

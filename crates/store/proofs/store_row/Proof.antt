@@ -8,7 +8,7 @@ use Rattle.store.proofs.store_row.Statement.{statement}
 use Rattle.store.proofs.store_row.Tie as tie
 
 store-run-requires : tie.Need-store-run-requires
-store-run-requires c κs = rw (c .before .if1 .taken) at (c .before .before .before .pre)
+store-run-requires c κs = let one = c .before in rw (one .if1 .taken) at (one .before .before .pre)
 
 store-spaced-requires : tie.Need-store-spaced-requires
 store-spaced-requires c κs = search needs
@@ -18,10 +18,11 @@ same-length c = search needs
 
 returns : tie.Need-returns
 returns c =
-    let a = c .before .before .before .before .before .args in
+    let one = c .before .before .before in
+    let a = one .before .before .args in
     let last = c .before .store-run .last .0 in
     subst (λ (step : ℕ). RowStored (a .offset) (a .at) (a .from) step (a .count) (now (a .words)) (now (a .output)) last)
-    (sym (c .before .before .before .if1 .taken)) (c .before .store-run .ensures)
+    (sym (one .if1 .taken)) (c .before .store-run .ensures)
 
 same-length-2 : tie.Need-same-length-2
 same-length-2 c = search needs
@@ -30,6 +31,4 @@ returns-2 : tie.Need-returns-2
 returns-2 c = search needs
 
 pub store-row-spec : {M : Type 1} → statement M
-store-row-spec =
-    tie.close
-    (tie.spec store-run-requires store-spaced-requires same-length returns same-length-2 returns-2)
+store-row-spec = tie.close (tie.spec store-run-requires store-spaced-requires same-length returns same-length-2 returns-2)

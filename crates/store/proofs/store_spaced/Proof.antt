@@ -1,9 +1,7 @@
 -- `store_spaced` goes on place by place; a word is there for each.
-use mathlib.Core.Path.{_≡_, _∙_}
 use Prim.Native.Nat.{_+_, _*_, _-_, _<_, _≤_}
+use native.Mathlib.Nat.{le-antisymm}
 use lib.ListN.{length, getD}
-use mir.Syntax.{w32}
-use mir.Facts.{toZ-ofZ}
 use denote.Ref.{now}
 use Rattle.spectrum.specs.Value.{Storable}
 use Rattle.store.specs.Held.{RowStored}
@@ -19,12 +17,14 @@ Inv-loop output₀ at words from step count offset i₀ output i = (i ≤ count)
 abbrev μ-loop : tie.MeasureT-loop
 μ-loop output₀ at words from step count offset i₀ output i = count - i
 
+-- the call that the loop is of
+abbrev start : tie.At-loop Inv-loop μ-loop → tie.Start Inv-loop μ-loop
+start c = c .before .before
+
 -- in a turn, the word is there and its value fits
-here : (c : tie.In-loop Inv-loop μ-loop) →
-    let a = c .before .before .before .args in
-    let i = c .before .loop .i in
+here : (c : tie.In-loop Inv-loop μ-loop) → let a = start (c .before) .args in let i = c .before .loop .i in
     (a .from + i * a .step < length (now (a .words))) × Storable (a .offset) (getD (now (a .words)) (a .from + i * a .step) 0)
-here c = c .before .before .before .pre .2 (c .before .loop .i) (c .loop-test .taken)
+here c = start (c .before) .pre .2 (c .before .loop .i) (c .loop-test .taken)
 
 loop-holds : tie.Need-loop-holds Inv-loop μ-loop
 loop-holds c =
@@ -44,7 +44,7 @@ shared-slice-read-value-of : tie.Need-shared-slice-read-value-of Inv-loop μ-loo
 shared-slice-read-value-of c = omega (arith, here (c .before))
 
 value-of-requires : tie.Need-value-of-requires Inv-loop μ-loop
-value-of-requires c κs = (c .before .before .before .before .pre .0, here (c .before) .1)
+value-of-requires c κs = (start (c .before .before) .pre .0, here (c .before) .1)
 
 add-place : tie.Need-add-place Inv-loop μ-loop
 add-place c = search needs
@@ -63,21 +63,18 @@ loop-less c = search needs
 
 loop-again : tie.Need-loop-again Inv-loop μ-loop
 loop-again c =
-    let turn = c .before .before in
-    let a = turn .before .before .before .args in
-    let loop = turn .before .loop in (
+    let loop = c .before .before .before in
+    let a = start loop .args in (
       omega arith,
-      row-next (a .offset) (a .at) (a .from) (a .step) (now (a .words)) (loop .i) _ (omega arith) (loop .inv .1)
-          (toZ-ofZ {w = w32} (record { sfits = c .value-of .ok }) ∙ c .value-of .ensures),
+      row-next (a .offset) (a .at) (a .from) (a .step) (now (a .words)) (loop .loop .i) (c .value-of .result) (omega arith) (loop .loop .inv .1)
+          (record { sfits = c .value-of .ok }) (c .value-of .ensures),
     )
 
 same-length : tie.Need-same-length Inv-loop μ-loop
 same-length c = search needs
 
 returns : tie.Need-returns Inv-loop μ-loop
-returns c =
-    let done : c .before .loop .i ≡ c .before .before .before .args .count = omega arith in
-    rw done at (c .before .loop .inv .1)
+returns c = rw (le-antisymm (c .before .loop .inv .0) (c .loop-test .left)) at (c .before .loop .inv .1)
 
 pub store-spaced-spec : {M : Type 1} → statement M
 store-spaced-spec =

@@ -1,5 +1,5 @@
 -- `store_tile` finds what the tile holds and lends its channel. That the rows stored are the tile stored is shown in HeldPlaces.
-use mathlib.Core.Path.{_≡_, ap}
+use mathlib.Core.Path.{_≡_}
 use Prim.Native.Nat.{ℕ, _+_, _-_, _*_, _≤_}
 use native.Mathlib.Nat.{mul-le-mul-right}
 use native.Mathlib.Omega.{arith}
@@ -16,37 +16,33 @@ use Rattle.store.proofs.HeldPlaces.{with-words, channel-end, rows-fit, 
 use Rattle.store.proofs.store_tile.Statement.{statement}
 use Rattle.store.proofs.store_tile.Tie as tie
 
--- the rows and the columns held, by the definitions
-rows-held : (c : tie.After-held-in) →
-    let a = c .before .before .before .args in
-    HeldBy (a .layer) (tileRow (a .layer) (a .tile)) (a .layer .rows) (c .held-in .result)
-rows-held c = rw (c .before .place-of .ensures .1) at (c .held-in .ensures)
+-- the rows held, by the definition
+module _ (c : tie.After-held-in) where
+  abbrev start : tie.Start
+  start = c .before .before .before
 
-columns-held : (c : tie.After-held-in2) →
-    let a = c .before .before .before .before .args in
-    HeldBy (a .layer) (tileColumn (a .layer) (a .tile)) (a .layer .columns) (c .held-in2 .result)
-columns-held c = rw (c .before .before .place-of .ensures .2) at (c .held-in2 .ensures)
+  rows-held : let a = start .args in HeldBy (a .layer) (tileRow (a .layer) (a .tile)) (a .layer .rows) (c .held-in .result)
+  rows-held = rw (c .before .place-of .ensures .1) at (c .held-in .ensures)
 
--- the first place of the part that is lent
-abbrev from : tie.After-held-in2 → ℕ
-from c = let l = c .before .before .before .before .args .layer in c .before .before .place-of .result .channel * (l .rows * l .columns)
+-- the columns held
+module _ (c : tie.After-held-in2) where
+  columns-held : let a = start (c .before) .args in HeldBy (a .layer) (tileColumn (a .layer) (a .tile)) (a .layer .columns) (c .held-in2 .result)
+  columns-held = rw (c .before .before .place-of .ensures .2) at (c .held-in2 .ensures)
 
-from-is : (c : tie.After-held-in2) →
-    let a = c .before .before .before .before .args in
-    from c ≡ tileChannel (a .layer) (a .tile) * (a .layer .rows * a .layer .columns)
-from-is c =
-    let l = c .before .before .before .before .args .layer in
-    ap (λ (k : ℕ). k * (l .rows * l .columns)) (c .before .before .place-of .ensures .0)
+  -- the first place of the part that is lent
+  abbrev from : ℕ
+  from = let l = start (c .before) .args .layer in c .before .before .place-of .result .channel * (l .rows * l .columns)
 
--- the channel is within the output
-part : (c : tie.After-held-in2) →
-    let a = c .before .before .before .before .args in
-    from c + a .layer .rows * a .layer .columns ≤ length (now (a .output))
-part c =
-    let s = c .before .before .before .before in
-    let l = s .args .layer in
-    let t = s .args .tile in
-    omega (arith, from-is c, channel-end l t (tile-channel-lt l (planned-tiled l (s .pre .0 .0)) t (s .pre .0 .2)), s .pre .0 .1)
+  from-is : let a = start (c .before) .args in from ≡ tileChannel (a .layer) (a .tile) * (a .layer .rows * a .layer .columns)
+  from-is = cc
+
+  -- the channel is within the output
+  part : let a = start (c .before) .args in from + a .layer .rows * a .layer .columns ≤ length (now (a .output))
+  part =
+      let s = start (c .before) in
+      let l = s .args .layer in
+      let t = s .args .tile in
+      omega (arith, from-is, channel-end l t (tile-channel-lt l (planned-tiled l (s .pre .0 .0)) t (s .pre .0 .2)), s .pre .0 .1)
 
 place-of-requires : tie.Need-place-of-requires
 place-of-requires c κs = search needs
@@ -59,9 +55,8 @@ held-in-requires c κs =
 
 held-in-requires-2 : tie.Need-held-in-requires-2
 held-in-requires-2 c κs =
-    let s = c .before .before .before in
-    let p = s .pre .0 .0 in
-    (p, columns-wanted _ p, omega (arith, c .before .place-of .ensures .2, tile-column-lt _ p (s .args .tile)))
+    let p = start c .pre .0 .0 in
+    (p, columns-wanted _ p, omega (arith, c .before .place-of .ensures .2, tile-column-lt _ p (start c .args .tile)))
 
 mul-from : tie.Need-mul-from
 mul-from c = omega (arith, part (c .before))
@@ -81,10 +76,14 @@ part-store-rows-start c = omega (arith, part (c .before .before))
 part-store-rows-end : tie.Need-part-store-rows-end
 part-store-rows-end c = search needs
 
+-- the part is lent
+abbrev found : tie.After-store-rows-arg → tie.After-held-in2
+found c = c .before .before .before
+
 store-rows-requires : tie.Need-store-rows-requires
 store-rows-requires c κs =
-    let h = c .before .before .before in
-    let s = h .before .before .before .before in
+    let h = found c in
+    let s = start (h .before) in
     let l = s .args .layer in
     let p = s .pre .0 .0 in
     let t = s .args .tile in
@@ -104,8 +103,8 @@ same-length c = search needs
 
 returns : tie.Need-returns
 returns c =
-    let h = c .before .before .before .before .before in
-    let s = h .before .before .before .before in
+    let h = found (c .before .before) in
+    let s = start (h .before) in
     tile-stored (s .args .layer) (s .pre .0 .0) (s .args .tile) _ _ (rows-held (h .before)) (columns-held h) (from h) (from-is h)
     (now (s .args .words)) (omega (arith, part h)) (c .before .store-rows .ensures)
 

@@ -1,7 +1,6 @@
 -- Value after value is loaded.
-use mathlib.Core.Path.{_≡_}
 use Prim.Native.Nat.{_+_, _*_, _-_, _/_, _≤_, _<_}
-use native.Mathlib.Nat.{mul-div-cancel}
+use native.Mathlib.Nat.{add-sub-cancel-left, le-antisymm, mul-div-cancel}
 use native.Mathlib.Omega.{arith}
 use borrow.Author.Needs.{sfits-of, needs}
 use lib.Dec.{T}
@@ -25,10 +24,14 @@ abbrev μ-loop : tie.MeasureT-loop
 loop-holds : tie.Need-loop-holds Inv-loop μ-loop
 loop-holds c = (omega arith, loaded-none (λ p t. omega (arith, spread-is _ _ _ p t)))
 
+-- the call that the loop is of
+abbrev start : tie.At-loop Inv-loop μ-loop → tie.Start Inv-loop μ-loop
+start c = c .before .before
+
 -- in a turn, the place is one of the words and the value one of the list
-inside : (c : tie.In-loop Inv-loop μ-loop) → let a = c .before .before .before .args in let i = c .before .loop .i in
+inside : (c : tie.In-loop Inv-loop μ-loop) → let a = start (c .before) .args in let i = c .before .loop .i in
     (a .at + i * a .spacing < length (a .words .now)) × (a .from + i < length (a .values .now))
-inside c = c .before .before .before .pre .1 (c .before .loop .i) (c .loop-test .taken)
+inside c = start (c .before) .pre .1 (c .before .loop .i) (c .loop-test .taken)
 
 add-value : tie.Need-add-value Inv-loop μ-loop
 add-value c = omega (arith, inside c .1)
@@ -52,7 +55,7 @@ mul-words-2 : tie.Need-mul-words-2 Inv-loop μ-loop
 mul-words-2 c = omega (arith, inside (c .before .before) .0)
 
 slice-write-words : tie.Need-slice-write-words Inv-loop μ-loop
-slice-write-words c = omega (arith, inside (c .before .before) .0, c .before .before .before .loop .inv .1 .same-length)
+slice-write-words c = omega (arith, inside (c .before .before) .0)
 
 add-i : tie.Need-add-i Inv-loop μ-loop
 add-i c = search needs
@@ -62,24 +65,20 @@ loop-less c = search needs
 
 loop-again : tie.Need-loop-again Inv-loop μ-loop
 loop-again c =
-    let read = c .before in
-    let turn = read .before in
-    let a = turn .before .before .before .args in
-    let i = turn .before .loop .i in
-    let some = turn .before .before .before .pre .0 .0 in
-    let e : (a .at + i * a .spacing - a .at) ≡ i * a .spacing = omega arith in (
+    let turn = c .before .before in
+    let loop = turn .before in
+    let s = start loop in
+    let made = rw (toZ-ofZ (sfits-of (c .before .value .given))) at (c .word .ensures) in (
       omega arith,
-      loaded-apart (a .spacing) (a .at) i (c .word .result) some (inside turn .0) (turn .before .loop .inv .1)
-          (rw (e, mul-div-cancel i some) (rw (toZ-ofZ (sfits-of (read .value .given))) at (c .word .ensures))),
+      loaded-apart (s .args .spacing) (s .args .at) (loop .loop .i) (c .word .result) (s .pre .0 .0) (inside turn .0) (loop .loop .inv .1)
+          (rw (add-sub-cancel-left, mul-div-cancel (loop .loop .i) (s .pre .0 .0)) made),
     )
 
 same-length : tie.Need-same-length Inv-loop μ-loop
 same-length c = search needs
 
 returns : tie.Need-returns Inv-loop μ-loop
-returns c =
-    let e : c .before .loop .i ≡ c .before .before .before .args .count = omega arith in
-    rw e at (c .before .loop .inv .1)
+returns c = rw (le-antisymm (c .before .loop .inv .0) (c .loop-test .left)) at (c .before .loop .inv .1)
 
 pub load-apart-spec : {M : Type 1} → statement M
 load-apart-spec =

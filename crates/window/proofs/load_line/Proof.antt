@@ -1,5 +1,5 @@
 -- `load_line` loads the map row that the grid row holds, or clears.
-use mathlib.Core.Path.{_≡_, refl, sym, ap, _∙_, subst}
+use mathlib.Core.Path.{_≡_, sym, ap, _∙_, subst}
 use Prim.Native.Nat.{ℕ, _+_, _*_, _-_, _/_, _≤_, _<_}
 use native.Mathlib.Omega.{arith}
 use borrow.Author.Needs.{needs}
@@ -24,48 +24,45 @@ has-values-requires c κs = search needs
 edge-of-requires : tie.Need-edge-of-requires
 edge-of-requires c κs = search needs
 
--- the grid row holds a row of the map
-found : (c : tie.After-edge-of) → let a = c .before .before .before .before .before .args in
-    T (spread (spacing (a .layer)) (edge (a .layer)) (a .layer .height) (a .line))
-found c = subst T (sym (sym (c .before .before .has-values .ensures) ∙ c .before .if1 .taken)) tt
+-- the grid row holds a row of the map, and the edge is known
+module _ (c : tie.After-edge-of) where
+  abbrev tested : tie.After-has-values
+  tested = c .before .before
 
--- which row it is
-same-row : (c : tie.After-edge-of) → let a = c .before .before .before .before .before .args in
-    (a .line - c .edge-of .result) / a .shown .spacing ≡ (a .line - edge (a .layer)) / spacing (a .layer)
-same-row c = let s = c .before .before .before .before .before in rw (c .edge-of .ensures, s .pre .0 .1 .spacing-is) refl
+  abbrev start : tie.Start
+  start = tested .before .before .before
 
-row-of : (c : tie.After-edge-of) → let a = c .before .before .before .before .before .args in
-    (c .edge-of .result ≤ a .line) × ((a .line - c .edge-of .result) / a .shown .spacing < a .layer .height)
-row-of c =
-    let (low, whole, high) = spread-is _ _ _ _ (found c) in
-    (omega (arith, c .edge-of .ensures), omega (arith, same-row c))
+  has-row : let a = start .args in T (spread (spacing (a .layer)) (edge (a .layer)) (a .layer .height) (a .line))
+  has-row = subst T (sym (sym (tested .has-values .ensures) ∙ c .before .if1 .taken)) tt
 
-row-inside : (c : tie.After-edge-of) → let a = c .before .before .before .before .before .args in
-    a .channel * a .layer .height + (a .line - c .edge-of .result) / a .shown .spacing < 32768
-row-inside c =
-    let s = c .before .before .before .before .before in
-    omega (arith, map-row _ (s .pre .0 .0) _ _ (s .pre .1 .1) (row-of c .1), map-rows-high _ (s .pre .0 .0))
+  -- which row it is
+  abbrev row : ℕ
+  row = (start .args .line - c .edge-of .result) / start .args .shown .spacing
 
-place-inside : (c : tie.After-edge-of) → let a = c .before .before .before .before .before .args in
-    (a .channel * a .layer .height + (a .line - c .edge-of .result) / a .shown .spacing) * a .layer .width < 16777216
-place-inside c =
-    let s = c .before .before .before .before .before in
-    let r = s .pre .0 .0 in
-    omega (arith, map-place _ r _ _ 0 (s .pre .1 .1) (row-of c .1) (r .width-low), map-high _ r)
+  same-row : let a = start .args in row ≡ (a .line - edge (a .layer)) / spacing (a .layer)
+  same-row = cc
 
--- what is loaded of it
-abbrev row-value : tie.After-edge-of → ℕ → ℤ
-row-value c p =
-    let a = c .before .before .before .before .before .args in
-    let row = (a .line - c .edge-of .result) / a .shown .spacing in
-    shownAt (a .shown) (a .at) (a .map .now) ((a .channel * a .layer .height + row) * a .layer .width + a .shown .first) p
+  row-of : (c .edge-of .result ≤ start .args .line) × (row < start .args .layer .height)
+  row-of =
+      let (low, whole, high) = spread-is _ _ _ _ has-row in
+      (omega (arith, c .edge-of .ensures), omega (arith, same-row))
 
-line-value : (c : tie.After-edge-of) (p : ℕ) → let a = c .before .before .before .before .before .args in
-    row-value c p ≡ lineAt (a .layer) (a .shown) (a .map .now) (a .channel) (a .line) (a .at) p
-line-value c p =
-    let a = c .before .before .before .before .before .args in
-    ap (λ (y : ℕ). shownAt (a .shown) (a .at) (a .map .now) ((a .channel * a .layer .height + y) * a .layer .width + a .shown .first) p) (same-row c)
-    ∙ sym (when-yes (spread _ _ _ _) _ (found c))
+  row-inside : start .args .channel * start .args .layer .height + row < 32768
+  row-inside = omega (arith, map-row _ (start .pre .0 .0) _ _ (start .pre .1 .1) (row-of .1), map-rows-high _ (start .pre .0 .0))
+
+  place-inside : let a = start .args in (a .channel * a .layer .height + row) * a .layer .width < 16777216
+  place-inside =
+      let r = start .pre .0 .0 in
+      omega (arith, map-place _ r _ _ 0 (start .pre .1 .1) (row-of .1) (r .width-low), map-high _ r)
+
+  -- what is loaded of the map row y
+  abbrev value : (y p : ℕ) → ℤ
+  value y p =
+      let a = start .args in
+      shownAt (a .shown) (a .at) (a .map .now) ((a .channel * a .layer .height + y) * a .layer .width + a .shown .first) p
+
+  line-value : (p : ℕ) → let a = start .args in value row p ≡ lineAt (a .layer) (a .shown) (a .map .now) (a .channel) (a .line) (a .at) p
+  line-value p = ap (λ (y : ℕ). value y p) same-row ∙ sym (when-yes (spread _ _ _ _) _ has-row)
 
 sub-map-row : tie.Need-sub-map-row
 sub-map-row c = row-of c .0
@@ -80,26 +77,28 @@ add-from : tie.Need-add-from
 add-from c = omega (arith, row-inside (c .before .before))
 
 mul-from-2 : tie.Need-mul-from-2
-mul-from-2 c = omega (arith, place-inside (c .before .before .before))
+mul-from-2 c = let here = c .before .before .before in omega (arith, place-inside here)
+
+-- where its values begin is known
+abbrev found : tie.After-struct-known4 → tie.After-edge-of
+found c = c .before .before .before .before
 
 add-from-2 : tie.Need-add-from-2
-add-from-2 c =
-    let s = c .before .before .before .before .before .before .before .before .before in
-    omega (arith, place-inside (c .before .before .before .before), s .pre .0 .1 .small)
+add-from-2 c = omega (arith, place-inside (found c))
 
 modulus-of-requires : tie.Need-modulus-of-requires
 modulus-of-requires c κs = search needs
 
 load-row-requires : tie.Need-load-row-requires
 load-row-requires c κs =
-    let s = c .before .before .before .before .before .before .before .before .before .before .before in
+    let here = found (c .before .before) in
+    let s = start here in
     let r = s .pre .0 .0 in
-    let n = c .before .before .before .before .before .before .before .before .before .transform-length .ensures in
+    let n = tested here .before .transform-length .ensures in
     let m = c .modulus-of .ensures in
-    let fits = s .pre .0 .1 in
-    let row = row-of (c .before .before .before .before .before .before) in (
+    let fits = s .pre .0 .1 in (
       (omega (arith, n, s .pre .0 .2), omega (arith, m, modulus-low _ r), omega (arith, m, modulus-high _ r)),
-      (rw n (fits .inside), λ i l. omega (arith, map-place _ r _ _ _ (s .pre .1 .1) (row .1) (fits .in-map i l), s .pre .1 .0)),
+      (rw n (fits .inside), λ i l. omega (arith, map-place _ r _ _ _ (s .pre .1 .1) (row-of here .1) (fits .in-map i l), s .pre .1 .0)),
     )
 
 add-clear : tie.Need-add-clear
@@ -113,18 +112,19 @@ same-length c = search needs
 
 returns : tie.Need-returns
 returns c =
-    let at = c .before .before .before .before .before .before .before .before .before in
-    let n = at .before .before .before .transform-length .ensures in
-    let loaded = rw (n, c .before .before .before .modulus-of .ensures) at (c .before .before .load-row .ensures) in
-    loaded-as {u = row-value at} loaded (λ p l h. (h, line-value at p)) (λ p h. h)
+    let ready = c .before .before .before in
+    let here = found (ready .before .before) in
+    let loaded = rw (tested here .before .transform-length .ensures, ready .modulus-of .ensures) at (c .before .before .load-row .ensures) in
+    loaded-as {u = value here (row here)} loaded (λ p l h. (h, line-value here p)) (λ p h. h)
 
 same-length-2 : tie.Need-same-length-2
 same-length-2 c = search needs
 
 returns-2 : tie.Need-returns-2
 returns-2 c =
-    let e = sym (c .before .before .before .before .before .has-values .ensures) ∙ c .before .before .before .before .if1 .left in
-    let cleared = loaded-clear (rw (c .before .before .before .before .before .before .transform-length .ensures) at (c .before .before .clear .ensures)) in
+    let none = c .before .before .before .before in
+    let e = sym (none .before .has-values .ensures) ∙ none .if1 .left in
+    let cleared = loaded-clear (rw (none .before .before .transform-length .ensures) at (c .before .before .clear .ensures)) in
     loaded-as cleared (λ p l h. ((h .0, omega arith), sym (when-no (spread _ _ _ _) _ (λ t. subst T e t)))) (λ p h. (h .0, omega arith))
 
 pub load-line-spec : {M : Type 1} → statement M

@@ -1,5 +1,5 @@
 -- `load_row` clears what the values leave free. It rests on the two forms of a row.
-use Prim.Native.Nat.{_+_, _-_, _≤_}
+use Prim.Native.Nat.{_+_, _≤_}
 use native.Mathlib.Omega.{arith}
 use borrow.Author.Needs.{needs}
 use Rattle.window.proofs.Rows.{close-end, close-row, apart-row}
@@ -16,60 +16,60 @@ clear-requires : tie.Need-clear-requires
 clear-requires c κs = search needs
 
 -- values side by side end within the row
-fits : (c : tie.Then1) → let a = c .before .before .before .before .args in a .shown .begin + a .shown .count ≤ a .n
-fits c =
-    let s = c .before .before .before .before in
-    close-end (s .args .n) (s .args .shown) (s .pre .1 .0) (s .args .at) (s .args .values .now) (s .args .from) (c .if1 .taken)
+module _ (c : tie.Then1) where
+  abbrev start : tie.Start
+  start = c .before .before .before .before
+
+  fits : let a = start .args in a .shown .begin + a .shown .count ≤ a .n
+  fits = let a = start .args in close-end _ _ (start .pre .1 .0) (a .at) (a .values .now) (a .from) (c .if1 .taken)
+
+abbrev close : tie.After-load-run-arg → tie.Then1
+close c = c .before .before .before .before .before
 
 load-run-requires : tie.Need-load-run-requires
-load-run-requires c κs =
-    let s = c .before .before .before .before .before .before .before .before .before in
-    let size = c .before .before .before .clear .ensures .same-length in
-    ((omega (arith, fits (c .before .before .before .before .before), size, s .pre .0 .0), s .pre .0 .1, s .pre .0 .2), s .pre .1 .1)
+load-run-requires c κs = ((omega (arith, fits (close c)), search needs, search needs), search needs)
+
+abbrev loaded : tie.After-struct-known3 → tie.After-load-run
+loaded c = c .before .before .before .before
 
 add-clear : tie.Need-add-clear
-add-clear c =
-    let taken = c .before .before .before .before .before .before .before .before .before .before in
-    omega (arith, fits taken, taken .before .before .before .before .pre .0 .0)
+add-clear c = omega (arith, fits (close (loaded c .before)))
 
 clear-requires-2 : tie.Need-clear-requires-2
-clear-requires-2 c κs =
-    let ran = c .before .before .before .before in
-    let taken = ran .before .before .before .before .before .before in
-    let s = taken .before .before .before .before in (
-      omega (arith, fits taken),
-      omega (arith, s .pre .0 .0, ran .load-run .ensures .same-length, ran .before .before .before .before .clear .ensures .same-length),
-    )
+clear-requires-2 c κs = (omega (arith, fits (close (loaded c .before))), omega arith)
 
 clear-requires-3 : tie.Need-clear-requires-3
 clear-requires-3 c κs = search needs
 
+-- the row is cleared for values apart
+abbrev given : tie.After-load-apart-arg → tie.Start
+given c = c .before .before .before .before .before .before .before .before .before
+
 load-apart-requires : tie.Need-load-apart-requires
 load-apart-requires c κs =
-    let s = c .before .before .before .before .before .before .before .before .before in (
-      (s .pre .1 .0 .apart, s .pre .0 .1, s .pre .0 .2),
-      λ i l. (omega (arith, s .pre .1 .0 .ends i l, c .before .before .before .clear3 .ensures .same-length), s .pre .1 .1 i l),
-    )
+    let inside = given c .pre .1 in
+    ((search needs, search needs, search needs), λ i l. (omega (arith, inside .0 .ends i l), inside .1 i l))
 
 same-length : tie.Need-same-length
 same-length c = search needs
 
 returns : tie.Need-returns
 returns c =
-    let ran = c .before .before .before .before .before .before .before in
-    let taken = ran .before .before .before .before .before .before in
-    let s = taken .before .before .before .before in
-    close-row (s .args .n) (s .args .shown) (s .pre .1 .0) (s .args .at) (s .args .values .now) (s .args .from) (taken .if1 .taken)
-    (ran .before .before .before .before .clear .ensures) (ran .load-run .ensures) (c .before .before .clear2 .ensures)
+    let run = loaded (c .before .before .before) in
+    let cleared = run .before .before .before .before in
+    let row = close (run .before) in
+    close-row _ _ (start row .pre .1 .0) _ (start row .args .values .now) (start row .args .from) (row .if1 .taken)
+    (cleared .clear .ensures) (run .load-run .ensures) (c .before .before .clear2 .ensures)
 
 same-length-2 : tie.Need-same-length-2
 same-length-2 c = search needs
 
 returns-2 : tie.Need-returns-2
 returns-2 c =
-    let s = c .before .before .before .before .before .before .before .before .before .before .before .before in
-    apart-row (s .args .n) (s .args .shown) (s .pre .1 .0) (s .args .at) (s .args .values .now) (s .args .from)
-    (c .before .before .before .before .before .before .clear3 .ensures) (c .before .before .load-apart .ensures)
+    let row = c .before .before .before in
+    let s = given row in
+    let cleared = row .before .before .before in
+    apart-row _ _ (s .pre .1 .0) _ (s .args .values .now) (s .args .from) (cleared .clear3 .ensures) (c .before .before .load-apart .ensures)
 
 pub load-row-spec : {M : Type 1} → statement M
 load-row-spec =

@@ -1,8 +1,10 @@
 -- Row after row is loaded: what a row shows is the same for all, but for the map row.
 use mathlib.Core.Path.{_≡_}
 use Prim.Native.Nat.{_+_, _*_, _-_, _≤_}
+use native.Mathlib.Nat.{le-antisymm}
 use native.Mathlib.Omega.{arith}
 use borrow.Author.Needs.{needs}
+use lib.ListN.{length}
 use Rattle.algebra.specs.PlacesLaws.{part-ends}
 use Rattle.algebra.specs.Places.{Run}
 use Rattle.fermat.specs.Field.{modulus, transformLength}
@@ -30,31 +32,29 @@ shown-of-requires c κs = search needs
 loop-holds : tie.Need-loop-holds Inv-loop μ-loop
 loop-holds c = (omega arith, loaded-none (λ p h. omega (arith, h)))
 
+-- the call that the loop is of, and its N
+abbrev start : tie.At-loop Inv-loop μ-loop → tie.Start Inv-loop μ-loop
+start c = c .before .before .before .before
+
+abbrev sized : tie.At-loop Inv-loop μ-loop → tie.After-transform-length Inv-loop μ-loop
+sized c = c .before .before
+
 -- the row lies within the window
-fits : (c : tie.In-loop Inv-loop μ-loop) → let n = transformLength (c .before .before .before .before .before .args .layer .field) in
-    c .before .loop .u * c .before .before .before .transform-length .result + n ≤ n * n
+fits : (c : tie.In-loop Inv-loop μ-loop) → let n = sized (c .before) .transform-length .result in
+    c .before .loop .u * n + n ≤ length (start (c .before) .args .words .now)
 fits c =
-    let n = c .before .before .before .transform-length .ensures in
-    rw n (part-ends (c .before .loop .u) _ _ (omega (arith, n, c .loop-test .taken)))
+    let n = sized (c .before) .transform-length .result in
+    let whole : n * n ≡ length (start (c .before) .args .words .now) = cc in
+    omega (arith, part-ends (c .before .loop .u) n n (c .loop-test .taken))
 
 mul-load-line : tie.Need-mul-load-line Inv-loop μ-loop
-mul-load-line c = omega (arith, fits (c .before), c .before .before .before .before .before .before .pre .0 .1)
+mul-load-line c = omega (arith, fits (c .before))
 
 add-load-line : tie.Need-add-load-line Inv-loop μ-loop
-add-load-line c =
-    let s = c .before .before .before .before .before .before in
-    omega (arith, s .pre .0 .2, c .before .loop-test .taken, c .before .before .before .before .transform-length .ensures, length-high _ (s .pre .0 .0))
+add-load-line c = omega (arith, length-high _ (start (c .before .before) .pre .0 .0))
 
 load-line-requires : tie.Need-load-line-requires Inv-loop μ-loop
-load-line-requires c κs =
-    let s = c .before .before .before .before .before .before in (
-      (
-        s .pre .0 .0,
-        c .before .before .before .shown-of .ensures .fitting,
-        omega (arith, fits (c .before), s .pre .0 .1, c .before .before .loop .inv .1 .same-length),
-      ),
-      s .pre .1,
-    )
+load-line-requires c κs = ((search needs, search needs, omega (arith, fits (c .before))), search needs)
 
 add-u : tie.Need-add-u Inv-loop μ-loop
 add-u c = search needs
@@ -64,12 +64,13 @@ loop-less c = search needs
 
 loop-again : tie.Need-loop-again Inv-loop μ-loop
 loop-again c =
-    let s = c .before .before .before .before .before .before .before .before .before in
-    let loop = c .before .before .before .before .before .loop in
-    let n = c .before .before .before .before .before .before .before .transform-length .ensures in (
-      omega (arith, n, c .before .before .before .before .loop-test .taken),
-      next-row _ (s .args .map .now) (s .args .channel) _ _ _ (loop .u)
-          (c .before .before .before .before .before .before .shown-of .ensures) (loop .inv .1) (rw n at (c .before .before .load-line .ensures)),
+    let turn = c .before .before .before .before in
+    let loop = turn .before in
+    let a = start loop .args in
+    let n = sized loop .transform-length .ensures in (
+      omega arith,
+      next-row _ (a .map .now) (a .channel) _ _ _ (loop .loop .u) (loop .before .shown-of .ensures) (loop .loop .inv .1)
+          (rw n at (c .before .before .load-line .ensures)),
     )
 
 same-length : tie.Need-same-length Inv-loop μ-loop
@@ -77,10 +78,9 @@ same-length c = c .before .loop .inv .1 .same-length
 
 returns : tie.Need-returns Inv-loop μ-loop
 returns c =
-    let s = c .before .before .before .before .before in
-    let e : c .before .loop .u ≡ transformLength (s .args .layer .field) =
-    omega (arith, c .loop-test .left, c .before .before .before .transform-length .ensures) in
-    windowed _ _ _ _ _ (s .pre .0 .1) (rw e at (c .before .loop .inv .1))
+    let loop = c .before in
+    let done = le-antisymm (loop .loop .inv .0) (rw (sized loop .transform-length .ensures) at (c .loop-test .left)) in
+    windowed _ _ _ _ _ (start loop .pre .0 .1) (rw done at (loop .loop .inv .1))
 
 pub load-window-spec : {M : Type 1} → statement M
 load-window-spec =

@@ -1,7 +1,7 @@
 -- `load_kernel` loads a plane's weights, turned round in CONV, and clears what follows them.
 use mathlib.Core.Path.{_∙_}
 use mathlib.Core.Logic.{⊎-elim}
-use Prim.Native.Nat.{_+_, _-_, _*_, _≤_}
+use Prim.Native.Nat.{_+_, _*_, _≤_}
 use native.Mathlib.Omega.{arith}
 use borrow.Author.Tests.{eq-eqb, ne-eqb}
 use lib.ListN.{length}
@@ -21,20 +21,23 @@ mul-count c = omega (arith, weights-high _ (c .before .before .pre .0 .0))
 modulus-of-requires : tie.Need-modulus-of-requires
 modulus-of-requires c κs = c .before .before .pre .0 .0 .field-high
 
+-- the modulus is known
+abbrev start : tie.After-modulus-of → tie.Start
+start c = c .before .before .before
+
 mul-from : tie.Need-mul-from
 mul-from c =
-    let s = c .before .before .before in
-    let r = s .pre .0 .0 in
-    omega (arith, plane-end _ r (s .args .plane) (s .pre .1 .1), kernel-high _ r)
+    let r = start c .pre .0 .0 in
+    omega (arith, plane-end _ r (start c .args .plane) (start c .pre .1 .1), kernel-high _ r)
 
 -- both loads find their room, and a modulus in range
-rooms : (c : tie.After-modulus-of) → let a = c .before .before .before .args in let count = a .layer .side * a .layer .side in
-    (count ≤ length (a .words .now)) × (a .plane * count + count ≤ length (a .kernel .now))
-    × (32768 ≤ c .modulus-of .result) × (c .modulus-of .result ≤ 4294967297)
+rooms : (c : tie.After-struct-known2) → let a = start (c .before) .args in let count = a .layer .side * a .layer .side in
+    let m = c .before .modulus-of .result in
+    (count ≤ length (a .words .now)) × (a .plane * count + count ≤ length (a .kernel .now)) × (32768 ≤ m) × (m ≤ 4294967297)
 rooms c =
-    let s = c .before .before .before in
+    let s = start (c .before) in
     let r = s .pre .0 .0 in
-    let m = c .modulus-of .ensures in (
+    let m = c .before .modulus-of .ensures in (
       omega (arith, corner-room _ r, s .pre .0 .1),
       omega (arith, plane-end _ r (s .args .plane) (s .pre .1 .1), s .pre .1 .0),
       omega (arith, m, modulus-low _ r),
@@ -43,20 +46,20 @@ rooms c =
 
 load-turned-requires : tie.Need-load-turned-requires
 load-turned-requires c κs =
-    let h = rooms (c .before .before .before) in
+    let h = rooms (c .before .before) in
     ((h .0, h .1), (h .2, h .3))
 
 load-run-requires : tie.Need-load-run-requires
 load-run-requires c κs =
-    let h = rooms (c .before .before .before) in
+    let h = rooms (c .before .before) in
     ((omega (arith, h .0), h .2, h .3), λ i l. omega (arith, h .1))
 
 -- after either load the words hold the weights
-loaded : (c : tie.Joined1) → let a = c .before .before .before .before .before .args in
+loaded : (c : tie.Joined1) → let a = start (c .before .before) .args in
     Loaded (modulus (a .layer .field)) (Run 0 (a .layer .side * a .layer .side)) (weightOf (a .layer) (a .kernel .now) (a .plane))
     (a .words .now) (c .if1 .words)
 loaded c =
-    let s = c .before .before .before .before .before in
+    let s = start (c .before .before) in
     let a = s .args in
     let some = s .pre .0 .0 .side-low in
     let m = c .before .before .modulus-of .ensures in
@@ -68,25 +71,17 @@ loaded c =
     (c .if1 .came)
 
 clear-requires : tie.Need-clear-requires
-clear-requires c κs = (omega (arith, loaded (c .before) .same-length, rooms (c .before .before .before) .0), omega arith)
+clear-requires c κs = (omega (arith, loaded (c .before) .same-length, rooms (c .before .before) .0), omega arith)
+
+-- and what follows them is cleared
+abbrev joined : tie.After-slice-known4 → tie.Joined1
+joined c = c .before .before .before .before
 
 same-length : tie.Need-same-length
-same-length c = c .before .before .clear .ensures .same-length ∙ loaded (c .before .before .before .before) .same-length
+same-length c = c .before .before .clear .ensures .same-length ∙ loaded (joined c) .same-length
 
 returns : tie.Need-returns
-returns c =
-    let joined = c .before .before .before .before in
-    weighted _ _ _ (rooms (joined .before .before) .0) (loaded joined) (c .before .before .clear .ensures)
+returns c = weighted _ _ _ (rooms (joined c .before) .0) (loaded (joined c)) (c .before .before .clear .ensures)
 
 pub load-kernel-spec : {M : Type 1} → statement M
-load-kernel-spec =
-    tie.close
-    (tie.spec
-    mul-count
-    modulus-of-requires
-    mul-from
-    load-turned-requires
-    load-run-requires
-    clear-requires
-    same-length
-    returns)
+load-kernel-spec = tie.close (tie.spec mul-count modulus-of-requires mul-from load-turned-requires load-run-requires clear-requires same-length returns)

@@ -1,6 +1,6 @@
 -- Value after value is loaded.
-use mathlib.Core.Path.{_≡_}
 use Prim.Native.Nat.{_+_, _-_, _≤_, _<_}
+use native.Mathlib.Nat.{add-sub-cancel-left, le-antisymm}
 use native.Mathlib.Omega.{arith}
 use borrow.Author.Needs.{needs, sfits-of}
 use lib.IntN.{pos}
@@ -22,9 +22,13 @@ abbrev μ-loop : tie.MeasureT-loop
 loop-holds : tie.Need-loop-holds Inv-loop μ-loop
 loop-holds c = (omega arith, loaded-none (λ p h. omega (arith, h)))
 
+-- the call that the loop is of
+abbrev start : tie.At-loop Inv-loop μ-loop → tie.Start Inv-loop μ-loop
+start c = c .before .before
+
 -- the value is one of the list
-inside : (c : tie.In-loop Inv-loop μ-loop) → let a = c .before .before .before .args in a .from + c .before .loop .i < length (a .values .now)
-inside c = c .before .before .before .pre .1 (c .before .loop .i) (c .loop-test .taken)
+inside : (c : tie.In-loop Inv-loop μ-loop) → let a = start (c .before) .args in a .from + c .before .loop .i < length (a .values .now)
+inside c = start (c .before) .pre .1 (c .before .loop .i) (c .loop-test .taken)
 
 add-value : tie.Need-add-value Inv-loop μ-loop
 add-value c = omega (arith, inside c)
@@ -55,21 +59,15 @@ loop-less c = search needs
 
 loop-again : tie.Need-loop-again Inv-loop μ-loop
 loop-again c =
-    let read = c .before in
-    let turn = read .before in
-    let at = turn .before .before .before .args .at in
-    let i = turn .before .loop .i in
-    let e : at + i - at ≡ i = omega arith in
-    let made = rw (toZ-ofZ (sfits-of (read .value .given))) at (c .word .ensures) in
-    (omega arith, loaded-longer _ _ _ (omega arith) (turn .before .loop .inv .1) (rw e made))
+    let loop = c .before .before .before in
+    let made = rw (toZ-ofZ (sfits-of (c .before .value .given))) at (c .word .ensures) in
+    (omega arith, loaded-longer _ _ _ (omega arith) (loop .loop .inv .1) (rw add-sub-cancel-left made))
 
 same-length : tie.Need-same-length Inv-loop μ-loop
 same-length c = search needs
 
 returns : tie.Need-returns Inv-loop μ-loop
-returns c =
-    let e : c .before .loop .i ≡ c .before .before .before .args .count = omega arith in
-    rw e at (c .before .loop .inv .1)
+returns c = rw (le-antisymm (c .before .loop .inv .0) (c .loop-test .left)) at (c .before .loop .inv .1)
 
 pub load-run-spec : {M : Type 1} → statement M
 load-run-spec =

@@ -11,33 +11,33 @@ edge-of-requires : tie.Need-edge-of-requires
 edge-of-requires c κs = search needs
 
 returns : tie.Need-returns
-returns c =
-    let e = c .before .edge-of .ensures in
-    sym (spread-before _ _ _ _ (omega (arith, e, c .if1 .taken)))
+returns c = sym (spread-before _ _ _ _ (omega arith))
 
 spacing-of-requires : tie.Need-spacing-of-requires
 spacing-of-requires c κs = search needs
 
+-- the spacing is known
+abbrev edged : tie.After-spacing-of → tie.After-edge-of
+edged c = c .before .before
+
 rem-if2 : tie.Need-rem-if2
-rem-if2 c = omega (arith, c .spacing-of .ensures, spacing-low _ (c .before .before .before .pre))
+rem-if2 c = omega (arith, spacing-low _ (edged c .before .pre))
 
 div-result : tie.Need-div-result
-div-result c = omega (arith, c .before .spacing-of .ensures, spacing-low _ (c .before .before .before .before .pre))
+div-result c = omega (arith, spacing-low _ (edged (c .before) .before .pre))
 
 returns-2 : tie.Need-returns-2
 returns-2 c =
-    let e = c .before .before .before .before .edge-of .ensures in
+    let e = edged (c .before .before) .edge-of .ensures in
     let f = c .before .before .spacing-of .ensures in
-    rw (e, f) (sym (spread-at _ _ _ _ (rw e at (c .before .before .before .if1 .left)) (rw (e, f) at (c .before .if2 .taken))))
+    rw (f, e) (sym (spread-at _ _ _ _ (omega arith) (rw (f, e) at (c .before .if2 .taken))))
 
 returns-3 : tie.Need-returns-3
 returns-3 c =
-    let e = c .before .before .before .edge-of .ensures in
+    let e = edged (c .before) .edge-of .ensures in
     let f = c .before .spacing-of .ensures in
-    let apart = rw (e, f) at (c .if2 .left) in
-    rw (e, f, ne-eqb _ _ apart) (sym (spread-between _ _ _ _ (rw e at (c .before .before .if1 .left)) apart))
+    let apart = rw (f, e) at (c .if2 .left) in
+    rw (f, e, ne-eqb _ _ apart) (sym (spread-between _ _ _ _ (omega arith) apart))
 
 pub has-values-spec : {M : Type 1} → statement M
-has-values-spec =
-    tie.close
-    (tie.spec edge-of-requires returns spacing-of-requires rem-if2 div-result returns-2 returns-3)
+has-values-spec = tie.close (tie.spec edge-of-requires returns spacing-of-requires rem-if2 div-result returns-2 returns-3)

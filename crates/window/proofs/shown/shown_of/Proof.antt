@@ -20,38 +20,44 @@ edge-of-requires c κs = search needs
 above-requires : tie.Need-above-requires
 above-requires c κs = search needs
 
+-- the spacing is small
+small : (c : tie.After-spacing-of) → (1 ≤ c .spacing-of .result) × (c .spacing-of .result ≤ 4)
+small c = rw (c .spacing-of .ensures) (spacing-low _ (c .before .pre .0), spacing-high _ (c .before .pre .0))
+
 ceiling-div-requires : tie.Need-ceiling-div-requires
 ceiling-div-requires c κs =
-    let s = c .before .before .before in
-    let e = c .before .before .spacing-of .ensures in (
-      omega (arith, e, spacing-low _ (s .pre .0)),
-      omega (arith, e, c .above .ensures, spacing-high _ (s .pre .0), s .pre .1),
-    )
+    let low = small (c .before .before) in
+    (omega arith, omega arith)
 
 -- the first value that is shown
-first-is : (c : tie.After-ceiling-div) → let a = c .before .before .before .before .args in
-    c .ceiling-div .result ≡ ceilingDiv (a .column - edge (a .layer)) (spacing (a .layer))
-first-is c =
-    rw (c .before .before .before .spacing-of .ensures, c .before .above .ensures, c .before .before .edge-of .ensures) at (c .ceiling-div .ensures)
+module _ (c : tie.After-ceiling-div) where
+  abbrev spaced : tie.After-spacing-of
+  spaced = c .before .before .before
 
-bounds : (c : tie.After-ceiling-div) → let column = c .before .before .before .before .args .column in
-    let steps = c .ceiling-div .result * c .before .before .before .spacing-of .result in let before = c .before .before .edge-of .result in
-    (steps ≤ column + 10) × (column ≤ before + steps) × (before + steps - column ≤ 10) × (before ≤ 10)
-bounds c =
-    let s = c .before .before .before .before in
-    let r = s .pre .0 in
-    rw (c .before .before .before .spacing-of .ensures, c .before .before .edge-of .ensures) (
-      first-high _ r (s .args .column) _ _ (first-is c) refl,
-      first-covers _ r (s .args .column) _ _ (first-is c) refl,
-      begin-high _ r (s .args .column) _ _ (first-is c) refl,
-      edge-high _ r,
-    )
+  abbrev start : tie.Start
+  start = spaced .before
+
+  first-is : let a = start .args in c .ceiling-div .result ≡ ceilingDiv (a .column - edge (a .layer)) (spacing (a .layer))
+  first-is = cc
+
+  bounds : let column = start .args .column in let before = c .before .before .edge-of .result in
+      let steps = c .ceiling-div .result * spaced .spacing-of .result in
+      (steps ≤ column + 10) × (column ≤ before + steps) × (before + steps - column ≤ 10) × (before ≤ 10)
+  bounds =
+      let r = start .pre .0 in
+      let column = start .args .column in
+      let same : c .ceiling-div .result * spaced .spacing-of .result ≡ c .ceiling-div .result * spacing (start .args .layer) = cc in (
+        omega (arith, first-high _ r column _ _ first-is refl),
+        omega (arith, first-covers _ r column _ _ first-is refl),
+        omega (arith, begin-high _ r column _ _ first-is refl),
+        omega (arith, edge-high _ r),
+      )
 
 mul-begin : tie.Need-mul-begin
-mul-begin c = omega (arith, bounds c .0, c .before .before .before .before .pre .1)
+mul-begin c = omega (arith, bounds c)
 
 add-begin : tie.Need-add-begin
-add-begin c = omega (arith, bounds c .0, bounds c .3, c .before .before .before .before .pre .1)
+add-begin c = omega (arith, bounds c)
 
 sub-begin : tie.Need-sub-begin
 sub-begin c = bounds c .1
@@ -60,40 +66,31 @@ transform-length-requires : tie.Need-transform-length-requires
 transform-length-requires c κs = search needs
 
 sub-ceiling-div : tie.Need-sub-ceiling-div
-sub-ceiling-div c =
-    let r = c .before .before .before .before .before .pre .0 in
-    omega (arith, bounds (c .before) .2, c .transform-length .ensures, length-low _ r)
+sub-ceiling-div c = omega (arith, bounds (c .before), length-low _ (start (c .before) .pre .0))
 
 ceiling-div-requires-2 : tie.Need-ceiling-div-requires-2
 ceiling-div-requires-2 c κs =
-    let s = c .before .before .before .before .before in
-    let e = c .before .before .before .before .spacing-of .ensures in
-    let r = s .pre .0 in (
-      omega (arith, e, spacing-low _ r),
-      omega (arith, e, spacing-high _ r, c .transform-length .ensures, length-high _ r),
-    )
+    let low = small (spaced (c .before)) in
+    (omega arith, omega (arith, length-high _ (start (c .before) .pre .0)))
 
 above-requires-2 : tie.Need-above-requires-2
 above-requires-2 c κs = search needs
 
 -- whichever count the code takes
-made : (c : tie.After-above2) (count : ℕ) → let a = c .before .before .before .before .before .before .before .args in
-    let room = c .before .ceiling-div2 .result in let left = c .above2 .result in
-    let first = c .before .before .before .ceiling-div .result in
-    let apart = c .before .before .before .before .before .before .spacing-of .result in
-    let before = c .before .before .before .before .before .edge-of .result in
-    count ≤ room → count ≤ left → ((i : ℕ) → i < room → i < left → i < count)
-    → Shows (a .layer) (a .column) (record { spacing = apart; first = first; begin = before + first * apart - a .column; count = count })
-made c count in-room in-left most =
-    let at = c .before .before .before in
-    let s = at .before .before .before .before in
-    let e = at .before .before .before .spacing-of .ensures in
-    let f = at .before .before .edge-of .ensures in
-    let room = rw (c .before .before .transform-length .ensures, e, f) at (c .before .ceiling-div2 .ensures) in
-    let left = c .above2 .ensures in
-    rw (e, f)
-    (shows (s .args .layer) (s .pre .0) (s .args .column) _ _ (first-is at) refl (c .before .ceiling-div2 .result) count (s .pre .1) room in-room
-    (omega arith) (λ i h k. most i h (omega arith)))
+module _ (c : tie.After-above2) where
+  abbrev found : tie.After-ceiling-div
+  found = c .before .before .before
+
+  made : (count : ℕ) → let a = start found .args in let first = found .ceiling-div .result in
+      let room = c .before .ceiling-div2 .result in let left = c .above2 .result in
+      let apart = spaced found .spacing-of .result in let before = found .before .before .edge-of .result in
+      count ≤ room → count ≤ left → ((i : ℕ) → i < room → i < left → i < count)
+      → Shows (a .layer) (a .column) (record { spacing = apart; first = first; begin = before + first * apart - a .column; count = count })
+  made count in-room in-left most =
+      let s = start found in
+      rw (← spaced found .spacing-of .ensures, ← found .before .before .edge-of .ensures) at
+      (shows (s .args .layer) (s .pre .0) (s .args .column) _ _ (first-is found) refl (c .before .ceiling-div2 .result) count (s .pre .1) (cc) in-room
+      (omega arith) (λ i h k. most i h (omega arith)))
 
 returns : tie.Need-returns
 returns c = made (c .before) (c .before .before .ceiling-div2 .result) (omega arith) (omega (arith, c .if1 .taken)) (λ i h k. h)
