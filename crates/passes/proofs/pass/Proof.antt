@@ -1,6 +1,6 @@
 -- The state of the loop: the blocks before this one are done, and the others are as they were.
 use mathlib.Core.Path.{_≡_, _∙_}
-use Prim.Native.Nat.{_+_, _-_, _*_, _<_, _≤_}
+use Prim.Native.Nat.{ℕ, _+_, _-_, _*_, _<_, _≤_}
 use native.Mathlib.Nat.{dvd-mul-left, pos-of-dvd-of-pos}
 use native.Mathlib.Omega.{arith}
 use borrow.Author.Needs.{needs}
@@ -17,30 +17,29 @@ Inv-loop words₀ rows half lanes step unit bits bound at₀ words at = Blocks s
 abbrev μ-loop : tie.MeasureT-loop
 μ-loop words₀ rows half lanes step unit bits bound at₀ words at = length words₀ - at
 
--- in a turn, the block lies within the words
-inside : (c : tie.In-loop Inv-loop μ-loop) →
-    let loop = c .before .loop in
-    let half = c .before .before .before .args .half in
-    loop .at + 2 * half ≤ length (loop .words)
-inside c =
-    let state = c .before .loop .inv in
-    let s = c .before .before .before in
-    let whole = s .pre .1 .0 .0 in
-    let short : state .count * (2 * s .args .half) < whole .blocks * (2 * s .args .half) = omega (arith, c .loop-test .taken, state .start, state .same-length, whole .whole) in
-    omega (arith, block-inside (state .count) (whole .blocks) (2 * s .args .half) short, state .start, state .same-length, whole .whole)
+-- in a turn, the block lies within the words, and what is lent of it is as long as the block
+module _ (c : tie.In-loop Inv-loop μ-loop) where
+  abbrev start : tie.Start Inv-loop μ-loop
+  start = c .before .before .before
 
--- and what is lent of it is as long as the block
-lent : (c : tie.In-loop Inv-loop μ-loop) →
-    let at = c .before .loop .at in
-    let half = c .before .before .before .args .half in
-    at + 2 * half - at ≡ 2 * half
-lent c = omega arith
+  abbrev place : ℕ
+  place = c .before .loop .at
 
-fits : (c : tie.In-loop Inv-loop μ-loop) →
-    let loop = c .before .loop in
-    let half = c .before .before .before .args .half in
-    loop .at + (loop .at + 2 * half - loop .at) ≤ length (loop .words)
-fits c = omega (arith, inside c, lent c)
+  abbrev block : ℕ
+  block = 2 * start .args .half
+
+  inside : place + block ≤ length (c .before .loop .words)
+  inside =
+      let state = c .before .loop .inv in
+      let whole = start .pre .1 .0 .0 in
+      let short : state .count * block < whole .blocks * block = omega (arith, c .loop-test .taken, state .start, state .same-length, whole .whole) in
+      omega (arith, block-inside (state .count) (whole .blocks) block short, state .start, state .same-length, whole .whole)
+
+  lent : place + block - place ≡ block
+  lent = omega arith
+
+  fits : place + (place + block - place) ≤ length (c .before .loop .words)
+  fits = omega (arith, inside, lent)
 
 loop-holds : tie.Need-loop-holds Inv-loop μ-loop
 loop-holds c =
@@ -69,14 +68,13 @@ stage-requires : tie.Need-stage-requires Inv-loop μ-loop
 stage-requires c κs =
     let turn = c .before in
     let loop = turn .before .loop in
-    let s = turn .before .before .before in
-    let a = s .args in
-    let size = loop .at + 2 * a .half - loop .at in
+    let s = start turn in
+    let size = place turn + block turn - place turn in
     let state = loop .inv in (
       s .pre .0,
       (
         rw (part-length (loop .at) size (loop .words) (fits turn), lent turn) (s .pre .1 .0 .1),
-        part-most (loop .at) size (loop .words) (fits turn) (a .bound)
+        part-most (loop .at) size (loop .words) (fits turn) (s .args .bound)
             (λ i l. omega (arith, state .rest (loop .at + i) (omega arith), s .pre .1 .1 (loop .at + i) (omega (arith, fits turn, state .same-length)))),
       ),
     )
@@ -84,19 +82,18 @@ stage-requires c κs =
 loop-less : tie.Need-loop-less Inv-loop μ-loop
 loop-less c =
     let turn = c .before .before .before .before in
-    let loop = turn .before .loop in
-    let s = turn .before .before .before in
-    let whole = s .pre .1 .0 .0 in
-    let some : 0 < 2 * s .args .half = pos-of-dvd-of-pos (dvd-mul-left (2 * s .args .half) (whole .blocks)) (omega (arith, turn .loop-test .taken, loop .inv .same-length, whole .whole)) in
-    omega (arith, inside turn, loop .inv .same-length)
+    let same = turn .before .loop .inv .same-length in
+    let whole = start turn .pre .1 .0 .0 in
+    let some : 0 < block turn = pos-of-dvd-of-pos (dvd-mul-left (block turn) (whole .blocks)) (omega (arith, turn .loop-test .taken, whole .whole)) in
+    omega (arith, inside turn)
 
 loop-again : tie.Need-loop-again Inv-loop μ-loop
 loop-again c =
     let call = c .before .before in
     let turn = call .before .before in
     let loop = turn .before .loop in
-    let a = turn .before .before .before .args in
-    let size = loop .at + 2 * a .half - loop .at in
+    let a = start turn .args in
+    let size = place turn + block turn - place turn in
     blocks-more (a .step) (a .bits) (a .bound) (a .unit) (a .rows) (a .lanes) (a .half) (loop .at) size (now (a .words)) (loop .words) (call .stage .last .0)
     (lent turn) (fits turn) (call .stage .kept .0 ∙ part-length (loop .at) size (loop .words) (fits turn)) (loop .inv) (call .stage .ensures)
 
@@ -105,9 +102,10 @@ same-length c = c .before .loop .inv .same-length
 
 returns : tie.Need-returns Inv-loop μ-loop
 returns c =
-    let loop = c .before .loop in
-    let a = c .before .before .before .args in
-    blocks-all (a .step) (a .bits) (a .bound) (a .unit) (a .rows) (a .lanes) (a .half) (loop .inv) (omega (arith, c .loop-test .left, loop .inv .same-length))
+    let head = c .before in
+    let a = head .before .before .args in
+    let all = head .loop .inv in
+    blocks-all (a .step) (a .bits) (a .bound) (a .unit) (a .rows) (a .lanes) (a .half) all (omega (arith, c .loop-test .left, all .same-length))
 
 pub pass-spec : {M : Type 1} → statement M
 pass-spec =

@@ -20,19 +20,19 @@ bits-of-requires c κs = search needs
 modulus-of-requires : tie.Need-modulus-of-requires
 modulus-of-requires c κs = search needs
 
+-- the call, from the numbers of its field
+abbrev start : tie.After-bits-of → tie.Start
+start c = c .before .before .before .before
+
 mul-forward-corner : tie.Need-mul-forward-corner
-mul-forward-corner c =
-    let s = c .before .before .before .before .before .before in
-    omega (arith, c .modulus-of .ensures, power-high (s .args .field) (s .pre .0))
+mul-forward-corner c = omega (arith, c .modulus-of .ensures, power-high _ (start (c .before .before) .pre .0))
 
 forward-corner-requires : tie.Need-forward-corner-requires
 forward-corner-requires c κs =
     let bits = c .before .before in
-    let s = bits .before .before .before .before in
-    let t = s .args .field in
-    let high = s .pre .0 in
+    let given = start bits .pre in
     rw (c .modulus-of .ensures, bits .bits-of .ensures, bits .before .halvings-of .ensures, bits .before .before .transform-length .ensures)
-    (row-bound t high, (tile-square t high refl (omega arith), s .pre .1))
+    (row-bound _ (given .0), (tile-square _ (given .0) refl (omega arith), given .1))
 
 same-length : tie.Need-same-length
 same-length c = search needs

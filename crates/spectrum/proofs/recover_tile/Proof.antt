@@ -2,7 +2,6 @@
 use mathlib.Core.Path.{_∙_}
 use native.Mathlib.Omega.{arith}
 use borrow.Author.Needs.{needs}
-use denote.Ref.{now}
 use Rattle.fermat.specs.FieldSizeLaws.{power-high}
 use Rattle.spectrum.proofs.Recovery.{Numbers, inverse-asks, inverse-most, recovered}
 use Rattle.spectrum.proofs.recover_tile.Statement.{statement}
@@ -20,44 +19,45 @@ bits-of-requires c κs = search needs
 modulus-of-requires : tie.Need-modulus-of-requires
 modulus-of-requires c κs = search needs
 
+-- the numbers of the field
+module _ (c : tie.After-modulus-of) where
+  abbrev sized : tie.After-transform-length
+  sized = c .before .before .before
+
+  abbrev start : tie.Start
+  start = sized .before .before
+
+  abbrev numbers : Numbers (start .args .field) (sized .transform-length .result) (c .before .before .halvings-of .result) (c .before .bits-of .result)
+      (c .modulus-of .result)
+  numbers = record {
+    side = sized .transform-length .ensures;
+    halvings = c .before .before .halvings-of .ensures;
+    bits = c .before .bits-of .ensures;
+    field = c .modulus-of .ensures;
+  }
+
+-- the words that were brought down
+abbrev down : tie.After-inverse-tile → tie.After-settle
+down c = c .before .before .before .before
+
 mul-bound : tie.Need-mul-bound
-mul-bound c =
-    let s = c .before .before .before .before .before in
-    omega (arith, c .modulus-of .ensures, power-high (s .args .field) (s .pre .1))
+mul-bound c = omega (arith, c .modulus-of .ensures, power-high (start c .args .field) (start c .pre .1))
 
 settle-requires : tie.Need-settle-requires
 settle-requires c κs = search needs
 
--- before the inverse: the words that were brought down and the numbers of the field
-module _ (c : tie.After-settle) where
-  abbrev field : tie.After-modulus-of
-  field = c .before .before
-
-  abbrev start : tie.Start
-  start = field .before .before .before .before .before
-
-  abbrev numbers : Numbers (start .args .field) (field .before .before .before .transform-length .result) (field .before .before .halvings-of .result)
-      (field .before .bits-of .result) (field .modulus-of .result)
-  numbers = record {
-    side = field .before .before .before .transform-length .ensures;
-    halvings = field .before .before .halvings-of .ensures;
-    bits = field .before .bits-of .ensures;
-    field = field .modulus-of .ensures;
-  }
-
 inverse-tile-requires : tie.Need-inverse-tile-requires
 inverse-tile-requires c κs =
     let down = c .before .before .before in
-    let s = start down in
-    inverse-asks (numbers down) (down .settle .last .0) (s .pre .1) (down .settle .kept .0 ∙ s .pre .2)
+    let field = down .before .before in
+    inverse-asks (numbers field) (down .settle .last .0) (start field .pre .1) (down .settle .kept .0 ∙ start field .pre .2)
     (λ i l. down .settle .ensures i (omega (arith, down .settle .kept .0)) .bound)
 
 offset-residues-requires : tie.Need-offset-residues-requires
 offset-residues-requires c κs =
     let inverted = c .before .before .before in
-    let down = inverted .before .before .before .before in
-    let s = start down in
-    ((s .pre .0, s .pre .1), inverse-most (numbers down) (inverted .inverse-tile .last .0) (inverted .inverse-tile .ensures .1))
+    let field = down inverted .before .before in
+    ((start field .pre .0, start field .pre .1), inverse-most (numbers field) (inverted .inverse-tile .last .0) (inverted .inverse-tile .ensures .1))
 
 same-length : tie.Need-same-length
 same-length c = search needs
@@ -66,9 +66,9 @@ returns : tie.Need-returns
 returns c =
     let last = c .before .before in
     let inverted = last .before .before .before .before in
-    let down = inverted .before .before .before .before in
-    let s = start down in
-    recovered (numbers down) (now (s .args .words)) (down .settle .last .0) (inverted .inverse-tile .last .0) (last .offset-residues .last .0) (s .pre .2)
+    let down = down inverted in
+    let field = down .before .before in
+    recovered (numbers field) _ (down .settle .last .0) (inverted .inverse-tile .last .0) (last .offset-residues .last .0) (start field .pre .2)
     (inverted .inverse-tile .kept .0 ∙ down .settle .kept .0) (down .settle .ensures) (inverted .inverse-tile .ensures .0) (last .offset-residues .ensures)
 
 pub recover-tile-spec : {M : Type 1} → statement M

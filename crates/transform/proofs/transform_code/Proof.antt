@@ -21,21 +21,21 @@ length-rules s = lengthRule (s .args .field) (now (s .args .words)) ∷ []
 abbrev residue-rules : tie.Start → List Rule
 residue-rules s = residuesRule (s .args .field) (now (s .args .words)) ∷ []
 
--- the call, after 2 and after 18 was found kept
-abbrev call-1 : tie.Else1 → tie.Start
-call-1 c = c .before .before .before .before
+-- the call, and rule 2 found kept
+abbrev start : tie.After-next → tie.Start
+start c = c .before .before .before
 
-abbrev call-2 : tie.Else2 → tie.Start
-call-2 c = call-1 (c .before .before .before)
+abbrev kept : tie.After-next2 → tie.Else1
+kept c = c .before .before
 
-field-code : (c : tie.After-next) → c .next .result ≡ firstBroken (field-rules (c .before .before .before))
+field-code : (c : tie.After-next) → c .next .result ≡ firstBroken (field-rules (start c))
 field-code c = one-rule 2 (c .next .ensures) (c .before .is-inside .ensures)
 
-length-code : (c : tie.After-next2) → c .next2 .result ≡ firstBroken (length-rules (call-1 (c .before .before)))
+length-code : (c : tie.After-next2) → c .next2 .result ≡ firstBroken (length-rules (start (kept c .before)))
 length-code c = one-rule 18 (c .next2 .ensures) (ap (eqb _) (c .before .transform-length .ensures))
 
-field-high : (c : tie.Else1) → call-1 c .args .field ≤ 5
-field-high c = inside-high 4 5 _ (none-broken (field-rules (call-1 c)) tt (sym (field-code (c .before)) ∙ c .if1 .left) .0)
+field-high : (c : tie.Else1) → start (c .before) .args .field ≤ 5
+field-high c = inside-high 4 5 _ (none-broken (field-rules (start (c .before))) tt (sym (field-code (c .before)) ∙ c .if1 .left) .0)
 
 is-inside-requires : tie.Need-is-inside-requires
 is-inside-requires c κs = search needs
@@ -46,7 +46,7 @@ next-requires c κs = search needs
 returns : tie.Need-returns
 unfolding transformCode
 returns c =
-    let s = c .before .before .before .before in
+    let s = start (c .before) in
     first-answers (field-rules s) (length-rules s ++ residue-rules s) (field-code (c .before)) (c .if1 .taken)
 
 transform-length-requires : tie.Need-transform-length-requires
@@ -58,13 +58,13 @@ next-requires-2 c κs = search needs
 returns-2 : tie.Need-returns-2
 unfolding transformCode
 returns-2 c =
-    let field = c .before .before .before in
-    let s = call-1 field in
+    let field = kept (c .before) in
+    let s = start (field .before) in
     goes-on (field-rules s) (length-rules s ++ residue-rules s) tt (field-code (field .before)) (field .if1 .left)
     (first-answers (length-rules s) (residue-rules s) (length-code (c .before)) (c .if2 .taken))
 
 modulus-of-requires : tie.Need-modulus-of-requires
-modulus-of-requires c κs = field-high (c .before .before .before)
+modulus-of-requires c κs = field-high (kept (c .before))
 
 all-below-requires : tie.Need-all-below-requires
 all-below-requires c κs = search needs
@@ -75,9 +75,9 @@ next-requires-3 c κs = search needs
 returns-3 : tie.Need-returns-3
 unfolding transformCode
 returns-3 c =
-    let length : tie.Else2 = c .before .before .before in
-    let field = length .before .before .before in
-    let s = call-2 length in
+    let length = c .before .before .before in
+    let field = kept (length .before) in
+    let s = start (field .before) in
     goes-on (field-rules s) (length-rules s ++ residue-rules s) tt (field-code (field .before)) (field .if1 .left)
     (goes-on (length-rules s) (residue-rules s) tt (length-code (length .before)) (length .if2 .left) (one-rule 19 (c .next3 .ensures) (rw (c .before .before .modulus-of .ensures) at (c .before .all-below .ensures))))
 

@@ -1,11 +1,8 @@
 -- `transform_row` transforms accepted words: its steps are those of `forward-row`.
 -- It rests on the sizes of the fields and on that law.
-use mathlib.Core.Path.{ap, _∙_}
-use Prim.Native.Nat.{ℕ, _*_, _%_}
+use mathlib.Core.Path.{_∙_}
 use native.Mathlib.Omega.{arith}
 use borrow.Author.Needs.{needs}
-use denote.Ref.{now}
-use lib.ListN.{getD}
 use Rattle.fermat.specs.FieldSizeLaws.{power-high}
 use Rattle.passes.specs.GridLaws.{row-bound, row-grid, row-passes}
 use Rattle.transform.proofs.Rows.{row-most, row-filled, forward-row}
@@ -21,51 +18,51 @@ modulus-of-requires c κs = search needs
 bits-of-requires : tie.Need-bits-of-requires
 bits-of-requires c κs = search needs
 
+-- the numbers of the field, and the call, before the passes; the passes, before the words are put in order
+abbrev field : tie.After-bits-of → tie.After-modulus-of
+field c = c .before .before
+
+abbrev start : tie.After-bits-of → tie.Start
+start c = field c .before .before .before
+
+abbrev passed : tie.After-reorder-arg → tie.After-forward
+passed c = c .before .before .before
+
 mul-forward : tie.Need-mul-forward
-mul-forward c =
-    let s = c .before .before .before .before .before in
-    omega (arith, power-high (s .args .field) (s .pre .field-high))
+mul-forward c = omega (arith, power-high _ (start c .pre .field-high))
 
 forward-requires : tie.Need-forward-requires
 forward-requires c κs =
-    let s = c .before .before .before .before .before in
-    let t = s .args .field in
-    let a = s .pre in
-    rw (c .bits-of .ensures, c .before .before .modulus-of .ensures)
-    (row-bound t (a .field-high), (row-grid t (a .field-high) (a .same-length), (row-most a, row-filled a)))
+    let a = start c .pre in
+    rw (c .bits-of .ensures, field c .modulus-of .ensures)
+    (row-bound _ (a .field-high), (row-grid _ (a .field-high) (a .same-length), (row-most a, row-filled a)))
 
 reorder-requires : tie.Need-reorder-requires
 reorder-requires c κs =
-    let f = c .before .before .before in
-    let halvings = f .before .before .before .before .halvings-of .ensures in
-    let s = f .before .before .before .before .before .before in
-    rw halvings (f .forward .kept .0 ∙ s .pre .same-length, omega arith)
+    let numbers = passed c .before in
+    rw (field numbers .before .halvings-of .ensures) (passed c .forward .kept .0 ∙ start numbers .pre .same-length, omega arith)
 
 scale-requires : tie.Need-scale-requires
 scale-requires c κs =
-    let m = c .before .before .before .before .before .before .before .before .before .before in
-    let s = m .before .before .before in
-    omega (arith, m .modulus-of .ensures, power-high (s .args .field) (s .pre .field-high))
+    let ordered = c .before .before .before in
+    omega (arith, power-high _ (start (passed (ordered .before) .before) .pre .field-high))
 
 same-length : tie.Need-same-length
 same-length c = search needs
 
 returns : tie.Need-returns
 returns c =
-    let r = c .before .before in
-    let o = r .before .before .before .before in
-    let f = o .before .before .before .before in
-    let bits = f .before .bits-of .ensures in
-    let modulus = f .before .before .before .modulus-of .ensures in
-    let halvings = f .before .before .before .before .halvings-of .ensures in
-    let s = f .before .before .before .before .before .before in
-    let size = s .pre .same-length in
-    let size-f = f .forward .kept .0 ∙ size in
-    let size-o = o .reorder .kept .0 ∙ size-f in
-    forward-row (s .args .field) (now (s .args .words)) (f .forward .last .0) (o .reorder .last .0) (r .scale .last .0)
-    size-f size-o (r .scale .kept .0 ∙ size-o)
-    (rw (bits, row-passes (s .args .field) (s .pre .field-high) size) at (f .forward .ensures .0)) (rw halvings at (o .reorder .ensures))
-    (λ i l. r .scale .ensures i l ∙ ap (λ (m : ℕ). (1 * getD (o .reorder .last .0) i 0) % m) modulus)
+    let scaled = c .before .before in
+    let ordered = scaled .before .before .before .before in
+    let passed = passed (ordered .before) in
+    let numbers = passed .before in
+    let a = start numbers .pre in
+    let passed-size = passed .forward .kept .0 ∙ a .same-length in
+    let ordered-size = ordered .reorder .kept .0 ∙ passed-size in
+    forward-row _ _ (passed .forward .last .0) (ordered .reorder .last .0) _ passed-size ordered-size (scaled .scale .kept .0 ∙ ordered-size)
+    (rw (← numbers .bits-of .ensures, ← row-passes _ (a .field-high) (a .same-length)) (passed .forward .ensures .0))
+    (rw (← field numbers .before .halvings-of .ensures) (ordered .reorder .ensures))
+    (rw (field numbers .modulus-of .ensures) at (scaled .scale .ensures))
 
 pub transform-row-spec : {M : Type 1} → statement M
 transform-row-spec =

@@ -63,25 +63,23 @@ group-total-requires c κs =
       },
     )
 
+-- what the branch makes of `most`
+module _ (c : tie.Joined1 Inv-loop μ-loop) where
+  abbrev head : tie.At-loop Inv-loop μ-loop
+  head = c .before .before .before
+
+  most-next : let a = head .before .args in
+      (c .if1 .most ≡ greatest (head .loop .i + 1) (totalAt (a .layer) (a .kernel .now) (a .m))) × (c .if1 .most ≤ 121 * 32768 * 64)
+  most-next =
+      let a = head .before .args in
+      let next = greatest-next (head .loop .i) (totalAt (a .layer) (a .kernel .now) (a .m)) in
+      ⊎-elim (λ w. (omega (arith, w), omega (arith, w))) (λ w. (omega (arith, w), omega (arith, w))) (c .if1 .came)
+
 add-i : tie.Need-add-i Inv-loop μ-loop
-add-i c = omega (arith, squared (c .before .before .before .before))
+add-i c = omega (arith, squared (head c .before))
 
 loop-less : tie.Need-loop-less Inv-loop μ-loop
 loop-less c = search needs
-
--- what the branch makes of `most`
-most-next : (c : tie.Joined1 Inv-loop μ-loop)
-    → let at : tie.At-loop Inv-loop μ-loop = c .before .before .before in
-    (c .if1 .most ≡ greatest (at .loop .i + 1) (totalAt (at .before .args .layer) (at .before .args .kernel .now) (at .before .args .m)))
-    × (c .if1 .most ≤ 121 * 32768 * 64)
-most-next c =
-    let at = c .before .before .before in
-    let total = c .before .group-total .ensures in
-    let next = greatest-next (at .loop .i) (totalAt (at .before .args .layer) (at .before .args .kernel .now) (at .before .args .m)) in
-    ⊎-elim
-    (λ w. (omega (arith, w .1, w .0 .taken, at .loop .inv .1, total .0, next), omega (arith, w .1, total .1)))
-    (λ w. (omega (arith, w .1, w .0 .left, at .loop .inv .1, total .0, next), omega (arith, w .1, at .loop .inv .2)))
-    (c .if1 .came)
 
 loop-again : tie.Need-loop-again Inv-loop μ-loop
 loop-again c = (omega arith, most-next c .0, most-next c .1)

@@ -1,5 +1,5 @@
 -- `group_total` adds plane after plane: the sum so far is that of the map channels before c. It rests on the laws of planes.
-use mathlib.Core.Path.{_≡_, sym, ap, _∙_}
+use mathlib.Core.Path.{_≡_, sym, ap, ap₂, _∙_}
 use mathlib.Core.List.{List}
 use Prim.Native.Nat.{ℕ, _+_, _*_, _-_, _≤_, _<_}
 use native.Mathlib.Nat.{mul-le-mul}
@@ -48,30 +48,31 @@ planes-to-requires c κs = search needs
 loop-holds : tie.Need-loop-holds Inv-loop μ-loop
 loop-holds c = (omega arith, sym (sum-none _), omega arith)
 
--- the call's figures, the weights of a plane, and the plane of map channel c
-abbrev start : tie.Then1 Inv-loop μ-loop → tie.Start Inv-loop μ-loop
-start c = c .before .before .before .before .before
+-- in a turn: the plane of map channel c is one of at most 4,096, and its run ends within the kernel
+module _ (c : tie.Then1 Inv-loop μ-loop) where
+  abbrev head : tie.At-loop Inv-loop μ-loop
+  head = c .before .before
 
-abbrev area : tie.Then1 Inv-loop μ-loop → ℕ
-area c = start c .args .layer .side * start c .args .layer .side
+  abbrev start : tie.Start Inv-loop μ-loop
+  start = head .before .before .before
 
-abbrev plane : tie.Then1 Inv-loop μ-loop → ℕ
-plane c =
-    let at = c .before .before in
-    at .before .planes-to .result .first + at .loop .c * at .before .planes-to .result .step
+  abbrev area : ℕ
+  area = start .args .layer .side * start .args .layer .side
 
-plane-is : (c : tie.Then1 Inv-loop μ-loop) → plane c ≡ planeOf (start c .args .layer) (start c .args .m) (c .before .before .loop .c)
-plane-is c = c .before .before .before .planes-to .ensures (c .before .before .loop .c)
+  abbrev plane : ℕ
+  plane = head .before .planes-to .result .first + head .loop .c * head .before .planes-to .result .step
 
-plane-in : (c : tie.Then1 Inv-loop μ-loop) → plane c < start c .args .layer .outputs * start c .args .layer .inputs
-plane-in c = rw (plane-is c) (plane-below (start c .args .layer) (start c .args .m) (c .before .before .loop .c) (start c .pre .1) (omega arith))
+  plane-is : plane ≡ planeOf (start .args .layer) (start .args .m) (head .loop .c)
+  plane-is = head .before .planes-to .ensures (head .loop .c)
 
--- there are at most 4,096 planes, and the plane's run ends within the kernel
-plane-small : (c : tie.Then1 Inv-loop μ-loop) → plane c < 4096
-plane-small c = omega (arith, plane-in c, mul-le-mul (start c .pre .0 .outputs-most) (start c .pre .0 .inputs-most))
+  plane-in : plane < start .args .layer .outputs * start .args .layer .inputs
+  plane-in = rw plane-is (plane-below (start .args .layer) (start .args .m) (head .loop .c) (start .pre .1) (omega arith))
 
-run-ends : (c : tie.Then1 Inv-loop μ-loop) → plane c * area c + area c ≤ length (start c .args .kernel .now)
-run-ends c = omega (arith, part-ends (plane c) _ (area c) (plane-in c), start c .pre .0 .weights)
+  plane-small : plane < 4096
+  plane-small = omega (arith, plane-in, mul-le-mul (start .pre .0 .outputs-most) (start .pre .0 .inputs-most))
+
+  run-ends : plane * area + area ≤ length (start .args .kernel .now)
+  run-ends = omega (arith, part-ends plane _ area plane-in, start .pre .0 .weights)
 
 mul-from : tie.Need-mul-from Inv-loop μ-loop
 mul-from c = omega (arith, plane-small (c .before))
@@ -99,8 +100,8 @@ part-plane-end c = omega (arith, run-ends (c .before .before))
 
 plane-sum-requires : tie.Need-plane-sum-requires Inv-loop μ-loop
 plane-sum-requires c κs =
-    let t = c .before .before .before in
-    omega (arith, part-length (start t .args .kernel .now) (plane t * area t) (area t) (run-ends t), area-most (start t))
+    let turn = c .before .before .before in
+    omega (arith, part-length (start turn .args .kernel .now) (plane turn * area turn) (area turn) (run-ends turn), area-most (start turn))
 
 add-total : tie.Need-add-total Inv-loop μ-loop
 add-total c = search needs
@@ -112,27 +113,26 @@ loop-less : tie.Need-loop-less Inv-loop μ-loop
 loop-less c = search needs
 
 -- the sum over the run is that of the plane
-summed : (c : tie.After-plane-sum Inv-loop μ-loop)
-    → let t : tie.Then1 Inv-loop μ-loop = c .before .before .before .before in
-    let a = start t .args in
-    c .plane-sum .result ≡ planeTotal (a .layer) (a .kernel .now) (a .m) (a .group) (t .before .before .loop .c)
-summed c =
-    let t : tie.Then1 Inv-loop μ-loop = c .before .before .before .before in
-    let a = start t .args in
-    c .plane-sum .ensures .0 ∙ plane-group (a .layer .side) (a .kernel .now) (plane t) (a .group) (run-ends t)
-    ∙ ap (λ (p : ℕ). groupIn (a .layer) (a .kernel .now) (a .group) p) (plane-is t)
+module _ (c : tie.After-plane-sum Inv-loop μ-loop) where
+  abbrev turn : tie.Then1 Inv-loop μ-loop
+  turn = c .before .before .before .before
+
+  summed : let a = start turn .args in c .plane-sum .result ≡ planeTotal (a .layer) (a .kernel .now) (a .m) (a .group) (head turn .loop .c)
+  summed =
+      let a = start turn .args in
+      c .plane-sum .ensures .0 ∙ plane-group (a .layer .side) (a .kernel .now) (plane turn) (a .group) (run-ends turn)
+      ∙ ap (groupIn (a .layer) (a .kernel .now) (a .group)) (plane-is turn)
 
 loop-again : tie.Need-loop-again Inv-loop μ-loop
-loop-again c =
-    let at = c .before .before .before .before .before .before in
-    (omega arith, rw (at .loop .inv .1, summed c, add-one, sum-last), omega arith)
+loop-again c = (omega arith, rw (add-one, sum-last) (ap₂ _+_ (head (turn c) .loop .inv .1) (summed c)), omega arith)
 
 returns : tie.Need-returns Inv-loop μ-loop
 unfolding groupTotal
 returns c =
-    let at = c .before .before in
-    let done : at .loop .c ≡ at .before .before .before .args .layer .inputs = omega arith in
-    (rw (at .loop .inv .1, done), omega arith)
+    let head = c .before .before in
+    let s = head .before .before .before in
+    let done : head .loop .c ≡ s .args .layer .inputs = omega arith in
+    (rw (head .loop .inv .1, done), omega arith)
 
 pub group-total-spec : {M : Type 1} → statement M
 group-total-spec =

@@ -36,30 +36,30 @@ add-i c = search needs
 loop-less : tie.Need-loop-less Inv-loop μ-loop
 loop-less c = search needs
 
--- the value that is read, and that its bits say it
-abbrev value : tie.After-v Inv-loop μ-loop → ℤ
-value c = getD (c .before .before .before .args .map .now) (c .before .before .loop .i) (pos 0)
+-- in a turn: the value that is read, and that its bits say it
+module _ (c : tie.After-v Inv-loop μ-loop) where
+  abbrev head : tie.At-loop Inv-loop μ-loop
+  head = c .before .before
 
-bits : (c : tie.After-v Inv-loop μ-loop) → toZ w16 (ofZ w16 (value c)) ≡ value c
-bits c = toZ-ofZ (sfits-of (c .v .given))
+  abbrev value : ℤ
+  value = getD (head .before .args .map .now) (head .loop .i) (pos 0)
+
+  bits : toZ w16 (ofZ w16 value) ≡ value
+  bits = toZ-ofZ (sfits-of (c .v .given))
 
 -- what the two branches make of the least and of the greatest value
-low-next : (c : tie.Joined1 Inv-loop μ-loop)
-    → toZ w16 (c .if1 .low) ≡ lesser (toZ w16 (c .before .before .before .loop .low)) (value (c .before))
+low-next : (c : tie.Joined1 Inv-loop μ-loop) → toZ w16 (c .if1 .low) ≡ lesser (toZ w16 (head (c .before) .loop .low)) (value (c .before))
 low-next c =
     let e = bits (c .before) in
     ⊎-elim (λ w. rw (w .1, e, rw e at (w .0 .taken))) (λ w. rw (w .1, rw e at (w .0 .left))) (c .if1 .came)
 
-high-next : (c : tie.Joined2 Inv-loop μ-loop)
-    → toZ w16 (c .if2 .high) ≡ greater (toZ w16 (c .before .before .before .before .loop .high)) (value (c .before .before))
+high-next : (c : tie.Joined2 Inv-loop μ-loop) → let v = c .before .before in toZ w16 (c .if2 .high) ≡ greater (toZ w16 (head v .loop .high)) (value v)
 high-next c =
     let e = bits (c .before .before) in
     ⊎-elim (λ w. rw (w .1, e, rw e at (w .0 .taken))) (λ w. rw (w .1, rw e at (w .0 .left))) (c .if2 .came)
 
 loop-again : tie.Need-loop-again Inv-loop μ-loop
-loop-again c =
-    let at = c .before .before .before .before in
-    pass-next (at .loop .i) (omega arith) (at .loop .inv) (low-next (c .before)) (high-next c)
+loop-again c = pass-next _ (omega arith) (head (c .before .before) .loop .inv) (low-next (c .before)) (high-next c)
 
 size-requires : tie.Need-size-requires Inv-loop μ-loop
 size-requires c κs = search needs

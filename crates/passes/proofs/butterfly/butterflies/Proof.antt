@@ -19,16 +19,17 @@ abbrev μ-loop : tie.MeasureT-loop
 μ-loop words₀ at half lanes step t bits bound k₀ words k = lanes - k
 
 -- in a turn, the two words are as they were lent, so at most the bound
-small : (c : tie.In-loop Inv-loop μ-loop) →
-    let a = c .before .before .before .args in
-    let p = a .at + c .before .loop .k in
-    (getD (c .before .loop .words) p 0 ≤ a .bound) × (getD (c .before .loop .words) (a .half + p) 0 ≤ a .bound)
-small c =
-    let s = c .before .before .before in
-    let p : ℕ = s .args .at + c .before .loop .k in
-    let same = c .before .loop .inv .2 p (omega arith) .kept (λ h. omega arith) in
-    let lent = s .pre .1 .1 p (omega arith, omega arith) in
-    (omega (arith, same .first, lent), omega (arith, same .second, lent))
+module _ (c : tie.In-loop Inv-loop μ-loop) where
+  abbrev start : tie.Start Inv-loop μ-loop
+  start = c .before .before .before
+
+  small : let a = start .args in let p = a .at + c .before .loop .k in
+      (getD (c .before .loop .words) p 0 ≤ a .bound) × (getD (c .before .loop .words) (a .half + p) 0 ≤ a .bound)
+  small =
+      let p : ℕ = start .args .at + c .before .loop .k in
+      let same = c .before .loop .inv .2 p (omega arith) .kept (λ h. omega arith) in
+      let lent = start .pre .1 .1 p (omega arith, omega arith) in
+      (omega (arith, same .first, lent), omega (arith, same .second, lent))
 
 loop-holds : tie.Need-loop-holds Inv-loop μ-loop
 loop-holds c =
@@ -56,8 +57,7 @@ slice-read-butterfly-2 c = search needs
 butterfly-requires : tie.Need-butterfly-requires Inv-loop μ-loop
 butterfly-requires c κs =
     let turn = c .before .before in
-    let s = turn .before .before .before in
-    (s .pre .0, (s .pre .1 .0 .2, small turn .0, small turn .1))
+    (start turn .pre .0, (start turn .pre .1 .0 .2, small turn .0, small turn .1))
 
 mul-words : tie.Need-mul-words Inv-loop μ-loop
 mul-words c = search needs
@@ -80,13 +80,12 @@ loop-less c = search needs
 loop-again : tie.Need-loop-again Inv-loop μ-loop
 loop-again c =
     let turn = c .before .before .before in
-    let s = turn .before .before .before in
-    let a = s .args in
+    let a = start turn .args in
     let loop = turn .before .loop in (
       omega (arith, turn),
       simp length-set (loop .inv .1),
       paired-longer (StepMakes (a .step) (a .bits) (a .bound) (a .t)) (a .at) (loop .k) (a .half) (c .butterfly .result .low) (c .butterfly .result .high)
-          (now (a .words)) (loop .words) (omega (arith, turn)) (omega (arith, turn, s .pre)) (loop .inv .2) (c .butterfly .ensures),
+          (now (a .words)) (loop .words) (omega (arith, turn)) (omega (arith, turn, start turn .pre)) (loop .inv .2) (c .butterfly .ensures),
     )
 
 same-length : tie.Need-same-length Inv-loop μ-loop
@@ -94,8 +93,9 @@ same-length c = search needs
 
 returns : tie.Need-returns Inv-loop μ-loop
 returns c =
-    let all : c .before .loop .k ≡ c .before .before .before .args .lanes = omega arith in
-    rw (← all) (c .before .loop .inv .2)
+    let head = c .before in
+    let all : head .loop .k ≡ head .before .before .args .lanes = omega arith in
+    rw (← all) (head .loop .inv .2)
 
 pub butterflies-spec : {M : Type 1} → statement M
 butterflies-spec =

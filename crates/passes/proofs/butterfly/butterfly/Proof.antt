@@ -1,9 +1,7 @@
 -- Each arm is its law of Words, for the step that the arm tells.
-use mathlib.Core.Path.{_≡_}
-use Prim.Native.Nat.{_-_, _≤_}
+use Prim.Native.Nat.{_-_, _≤_, _<_}
 use native.Mathlib.Omega.{arith}
 use borrow.Author.Needs.{needs}
-use Rattle.passes.specs.declared.butterfly.Step.the-variants.{Plain, Forward, Inverse}
 use Rattle.passes.specs.WordLaws.{bound-multiple, plain-law, forward-law, inverse-fits, inverse-law}
 use Rattle.passes.proofs.butterfly.butterfly.Statement.{statement}
 use Rattle.passes.proofs.butterfly.butterfly.Tie as tie
@@ -35,33 +33,32 @@ sub-times-power c = search needs
 times-power-requires : tie.Need-times-power-requires
 times-power-requires c κs =
     let s = c .before .before in
-    let is : s .args .step ≡ Forward = c .enum-told2 .given .1 in
-    (bound-multiple (s .pre .0), (rw is at (s .pre .1 .0), omega arith, s .pre .0 .fits))
+    (bound-multiple (s .pre .0), (rw (c .enum-told2 .given .1) at (s .pre .1 .0), omega arith, s .pre .0 .fits))
 
 enum-told-3 : tie.Need-enum-told-3
 enum-told-3 c = search needs
 
+-- the arm of the inverse step: its power is above 0 and below the bits
+module _ (c : tie.After-enum-told3) where
+  abbrev start : tie.Start
+  start = c .before .before
+
+  ready : (0 < start .args .t) × (start .args .t < start .args .bits)
+  ready = rw (c .enum-told3 .given .1) at (c .before .before .pre .1 .0)
+
 sub-times-power-2 : tie.Need-sub-times-power-2
-sub-times-power-2 c =
-    let s = c .before .before in
-    let is : s .args .step ≡ Inverse = c .enum-told3 .given .1 in
-    let ready = rw is at (s .pre .1 .0) in
-    omega arith
+sub-times-power-2 c = omega (arith, ready c)
 
 times-power-requires-2 : tie.Need-times-power-requires-2
-times-power-requires-2 c κs =
-    let s = c .before .before in
-    let is : s .args .step ≡ Inverse = c .enum-told3 .given .1 in
-    let ready = rw is at (s .pre .1 .0) in
-    (s .pre .0 .halved, (omega arith, omega arith, omega arith))
+times-power-requires-2 c κs = (start c .pre .0 .halved, omega (arith, ready c))
 
 add-t17 : tie.Need-add-t17
 add-t17 c = search needs
 
 -- the second word times the power is at most the bound
-small : (c : tie.After-times-power2) → c .times-power2 .result ≤ c .before .before .before .args .bound
+small : (c : tie.After-times-power2) → c .times-power2 .result ≤ start (c .before) .args .bound
 small c =
-    let s = c .before .before .before in
+    let s = start (c .before) in
     inverse-fits (s .pre .0) (s .args .u) (s .args .v) (s .pre .1 .1) (s .pre .1 .2) (s .args .bits - s .args .t) (c .times-power2 .result)
     (c .times-power2 .ensures)
 
@@ -74,21 +71,18 @@ add-t19 c = omega (arith, small c)
 returns : tie.Need-returns
 returns c =
     let s = c .before .before in
-    let is : s .args .step ≡ Plain = c .enum-told .given .1 in
-    rw is (plain-law (s .pre .0) (s .args .u) (s .args .v) (s .pre .1 .1) (s .pre .1 .2))
+    rw (c .enum-told .given .1) (plain-law (s .pre .0) (s .args .u) (s .args .v) (s .pre .1 .1) (s .pre .1 .2))
 
 returns-2 : tie.Need-returns-2
 returns-2 c =
     let s = c .before .before .before in
-    let is : s .args .step ≡ Forward = c .before .enum-told2 .given .1 in
-    rw is
+    rw (c .before .enum-told2 .given .1)
     (forward-law (s .pre .0) (s .args .u) (s .args .v) (s .pre .1 .1) (s .pre .1 .2) (s .args .t) (c .times-power .result) (c .times-power .ensures))
 
 returns-3 : tie.Need-returns-3
 returns-3 c =
-    let s = c .before .before .before in
-    let is : s .args .step ≡ Inverse = c .before .enum-told3 .given .1 in
-    rw is
+    let s = start (c .before) in
+    rw (c .before .enum-told3 .given .1)
     (inverse-law (s .pre .0) (s .args .u) (s .args .v) (s .pre .1 .1) (s .pre .1 .2) (s .args .bits - s .args .t) (c .times-power2 .result)
     (c .times-power2 .ensures))
 

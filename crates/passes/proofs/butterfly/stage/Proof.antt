@@ -1,7 +1,6 @@
 -- The state of the loop: the rows from 1 to r - 1 are done. Row 0 completes the stage.
-use mathlib.Core.Path.{_≡_, refl, sym, _∙_}
+use mathlib.Core.Path.{_≡_, refl, _∙_}
 use Prim.Native.Nat.{_+_, _-_, _*_, _<_, _≤_}
-use native.Mathlib.Nat.{mul-one, one-mul}
 use native.Mathlib.Omega.{arith}
 use borrow.Author.Needs.{needs}
 use lib.ListN.{length}
@@ -19,35 +18,35 @@ abbrev μ-loop : tie.MeasureT-loop
 μ-loop words₀ rows half lanes step unit bits bound r₀ at₀ t₀ words r at t = rows - r
 
 -- in a turn, the row lies within the half, and its power is above 0 and below the bits
-within : (c : tie.In-loop Inv-loop μ-loop) →
-    let a = c .before .before .before .args in
-    let loop = c .before .loop in
-    (loop .at + a .lanes ≤ a .half) × (loop .t + a .unit ≤ a .bits) × (0 < loop .t) × (loop .t < a .bits)
-within c =
-    let s = c .before .before .before in
-    let a = s .args in
-    let loop = c .before .loop in
-    let size = s .pre .1 .0 in
-    let row = part-ends (loop .r) (a .rows) (a .lanes) (c .loop-test .taken) in
-    let turn = unit-le (a .unit) (loop .r) (a .rows) (c .loop-test .taken) in
-    let some = unit-le (a .unit) 0 (loop .r) (loop .inv .0) in
-    (omega (arith, row, size .inside), omega (arith, turn, size .turns), omega (arith, some, size .step), omega (arith, turn, size .turns, size .step))
+module _ (c : tie.In-loop Inv-loop μ-loop) where
+  abbrev start : tie.Start Inv-loop μ-loop
+  start = c .before .before .before
+
+  within : let a = start .args in let loop = c .before .loop in
+      (loop .at + a .lanes ≤ a .half) × (loop .t + a .unit ≤ a .bits) × (0 < loop .t) × (loop .t < a .bits)
+  within =
+      let a = start .args in
+      let loop = c .before .loop in
+      let size = start .pre .1 .0 in
+      let row = part-ends (loop .r) (a .rows) (a .lanes) (c .loop-test .taken) in
+      let power = unit-le (a .unit) (loop .r) (a .rows) (c .loop-test .taken) in
+      let some = unit-le (a .unit) 0 (loop .r) (loop .inv .0) in
+      (omega (arith, size .inside), omega (arith, size .turns), omega (arith, size .step), omega (arith, size .turns, size .step))
+
+-- the turn, from its end
+abbrev turn : tie.After-slice-known2 Inv-loop μ-loop → tie.In-loop Inv-loop μ-loop
+turn end = end .before .before .before .before
 
 loop-holds : tie.Need-loop-holds Inv-loop μ-loop
 loop-holds c =
-    let a = c .before .args in (
-      omega arith,
-      c .before .pre .1 .0 .some,
-      sym (one-mul (a .lanes)),
-      sym (mul-one (a .unit)),
-      refl,
-      rows-none (a .step) (a .bits) (a .bound) (a .unit) (a .half) (a .lanes) (now (a .words)),
-    )
+    let a = c .before .args in
+    let none = rows-none (a .step) (a .bits) (a .bound) (a .unit) (a .half) (a .lanes) (now (a .words)) in
+    (omega arith, c .before .pre .1 .0 .some, omega arith, omega arith, refl, none)
 
 butterflies-requires : tie.Need-butterflies-requires Inv-loop μ-loop
 butterflies-requires c κs =
     let turn = c .before in
-    let s = turn .before .before .before in
+    let s = start turn in
     let a = s .args in
     let loop = turn .before .loop in
     let w = within turn in (
@@ -63,10 +62,10 @@ add-r : tie.Need-add-r Inv-loop μ-loop
 add-r c = search needs
 
 add-at : tie.Need-add-at Inv-loop μ-loop
-add-at c = omega (arith, within (c .before .before .before .before))
+add-at c = omega (arith, within (turn c))
 
 add-t : tie.Need-add-t Inv-loop μ-loop
-add-t c = omega (arith, within (c .before .before .before .before), c .before .before .before .before .before .before .before .pre .0 .halved)
+add-t c = omega (arith, within (turn c), start (turn c) .pre .0 .halved)
 
 loop-less : tie.Need-loop-less Inv-loop μ-loop
 loop-less c = search needs
@@ -74,8 +73,8 @@ loop-less c = search needs
 loop-again : tie.Need-loop-again Inv-loop μ-loop
 loop-again c =
     let call = c .before .before in
-    let turn = call .before .before in
-    let a = turn .before .before .before .args in
+    let turn = turn c in
+    let a = start turn .args in
     let loop = turn .before .loop in (
       omega arith,
       omega (arith, turn .loop-test .taken),
@@ -88,14 +87,14 @@ loop-again c =
 
 butterflies-requires-2 : tie.Need-butterflies-requires-2 Inv-loop μ-loop
 butterflies-requires-2 c κs =
-    let loop = c .before .before .loop in
-    let s = c .before .before .before .before in
+    let head = c .before .before in
+    let s = head .before .before in
     let a = s .args in
     let row = part-ends 0 (a .rows) (a .lanes) (s .pre .1 .0 .some) in (
       s .pre .0,
       (
-        (loop .inv .4 ∙ s .pre .1 .0 .whole, omega (arith, row, s .pre .1 .0 .inside), s .pre .0 .halved .bits-low),
-        pairs-lent (a .bound) (a .half) (now (a .words)) (loop .words) (s .pre .1 .0 .whole) (s .pre .1 .1) (loop .inv .5)
+        (head .loop .inv .4 ∙ s .pre .1 .0 .whole, omega (arith, row, s .pre .1 .0 .inside), s .pre .0 .halved .bits-low),
+        pairs-lent (a .bound) (a .half) (now (a .words)) (head .loop .words) (s .pre .1 .0 .whole) (s .pre .1 .1) (head .loop .inv .5)
             (λ i q. omega (arith, row, q, s .pre .1 .0 .inside)) (λ i q p. omega arith),
       ),
     )
@@ -106,12 +105,12 @@ same-length c = search needs
 returns : tie.Need-returns Inv-loop μ-loop
 returns c =
     let call = c .before .before in
-    let loop = call .before .before .before .loop in
-    let s = call .before .before .before .before .before in
+    let head = call .before .before .before in
+    let s = head .before .before in
     let a = s .args in
-    let all : loop .r ≡ a .rows = omega (arith, loop .inv .1, call .before .before .loop-test .left) in
-    rows-all (a .step) (a .bits) (a .bound) (a .unit) (a .half) (a .lanes) (a .rows) (now (a .words)) (loop .words) (call .butterflies2 .last .0)
-    (s .pre .1 .0 .some) (rw all at (loop .inv .5)) (call .butterflies2 .ensures)
+    let all : head .loop .r ≡ a .rows = omega (arith, head .loop .inv .1, call .before .before .loop-test .left) in
+    rows-all (a .step) (a .bits) (a .bound) (a .unit) (a .half) (a .lanes) (a .rows) (now (a .words)) (head .loop .words) (call .butterflies2 .last .0)
+    (s .pre .1 .0 .some) (rw all at (head .loop .inv .5)) (call .butterflies2 .ensures)
 
 pub stage-spec : {M : Type 1} → statement M
 stage-spec =

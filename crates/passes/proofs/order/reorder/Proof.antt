@@ -28,9 +28,8 @@ reverse-requires c κs = search needs
 
 swap-requires : tie.Need-swap-requires Inv-loop μ-loop
 swap-requires c κs =
-    let turn = c .before .before .before in
-    let halvings = turn .before .before .before .args .halvings in
-    (search needs, omega (arith, reversed-lt halvings (turn .before .loop .k) (omega arith)))
+    let head = c .before .before .before .before in
+    (search needs, omega (arith, reversed-lt (head .before .before .args .halvings) (head .loop .k) (omega arith)))
 
 add-k : tie.Need-add-k Inv-loop μ-loop
 add-k c = search needs
@@ -41,14 +40,14 @@ loop-less c = search needs
 loop-again : tie.Need-loop-again Inv-loop μ-loop
 loop-again c =
     let called = c .before in
-    let s = called .before .before .before .before in
-    let L = called .before .before .loop in
+    let head = called .before .before in
+    let s = head .before .before in
     let i = reversed-involution (s .args .halvings) in
     let e = sym (called .reverse .ensures) in (
       omega arith,
       ⊎-elim
-          (λ w. exchange-step i (s .pre .0) (L .inv .1) (omega arith) refl e (w .0 .taken) (omega arith) (w .5 ∙ w .2 .ensures))
-          (λ w. rw (w .1) (exchange-skip i (s .pre .0) (L .inv .1) (omega arith) (omega arith)))
+          (λ w. exchange-step i (s .pre .0) (head .loop .inv .1) (omega arith) refl e (w .0 .taken) (omega arith) (w .5 ∙ w .2 .ensures))
+          (λ w. rw (w .1) (exchange-skip i (s .pre .0) (head .loop .inv .1) (omega arith) (omega arith)))
           (c .if1 .came),
     )
 
@@ -56,7 +55,7 @@ same-length : tie.Need-same-length Inv-loop μ-loop
 same-length c = search needs
 
 returns : tie.Need-returns Inv-loop μ-loop
-returns c = exchange-all (reversed (c .before .before .before .args .halvings)) (omega arith) (c .before .loop .inv .1)
+returns c = exchange-all _ (omega arith) (c .before .loop .inv .1)
 
 pub reorder-spec : {M : Type 1} → statement M
 reorder-spec =

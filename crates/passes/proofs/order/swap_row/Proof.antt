@@ -34,15 +34,15 @@ not-lower n r p l above below = go (decLt c r)
     go (yes left) = omega (arith, other, above-lt c r left l)
     go (no left) = let same : c ≡ r = omega arith in omega (arith, other, ap (λ (x : ℕ). x * n) same)
 
--- both places of an exchange lie within the square
-inside : (c : tie.In-loop Inv-loop μ-loop) →
-    let a = c .before .before .before .args in
-    let k = c .before .loop .k in
-    (a .r * a .n + k < a .n * a .n) × (k * a .n + a .r < a .n * a .n)
-inside c =
-    let s = c .before .before .before in
-    let k = c .before .loop .k in
-    (place-lt (s .args .r) k (s .pre .1) (c .loop-test .taken), place-lt k (s .args .r) (c .loop-test .taken) (s .pre .1))
+-- in a turn, both places of an exchange lie within the square
+module _ (c : tie.In-loop Inv-loop μ-loop) where
+  abbrev start : tie.Start Inv-loop μ-loop
+  start = c .before .before .before
+
+  inside : let a = start .args in let k = c .before .loop .k in (a .r * a .n + k < a .n * a .n) × (k * a .n + a .r < a .n * a .n)
+  inside =
+      let k = c .before .loop .k in
+      (place-lt (start .args .r) k (start .pre .1) (c .loop-test .taken), place-lt k (start .args .r) (c .loop-test .taken) (start .pre .1))
 
 add-k : tie.Need-add-k Inv-loop μ-loop
 add-k c = search needs
@@ -77,16 +77,13 @@ loop-again : tie.Need-loop-again Inv-loop μ-loop
 loop-again c =
     let called = c .before .before in
     let turn = called .before .before in
-    let s = turn .before .before .before in
-    let n = s .args .n in
-    let r = s .args .r in
+    let s = start turn in
     let L = turn .before .loop in
-    let k = L .k in
     let short = turn .loop-test .taken in (
       omega arith,
       omega arith,
-      exchange-step (across-involution n) (s .pre .0) (L .inv .2) (omega arith) (omega arith) (across-place r k short)
-          (above-lt r k (L .inv .0) short) (inside turn .0) (called .swap .ensures),
+      exchange-step (across-involution (s .args .n)) (s .pre .0) (L .inv .2) (omega arith) (omega arith) (across-place (s .args .r) (L .k) short)
+          (above-lt (s .args .r) (L .k) (L .inv .0) short) (inside turn .0) (called .swap .ensures),
     )
 
 same-length : tie.Need-same-length Inv-loop μ-loop
@@ -94,10 +91,10 @@ same-length c = search needs
 
 returns : tie.Need-returns Inv-loop μ-loop
 returns c =
-    let a = c .before .before .before .args in
-    let L = c .before .loop in
-    let e : a .r * a .n + L .k ≡ (a .r + 1) * a .n = omega arith in
-    rw e at (L .inv .2)
+    let head = c .before in
+    let a = head .before .before .args in
+    let e : a .r * a .n + head .loop .k ≡ (a .r + 1) * a .n = omega arith in
+    rw e at (head .loop .inv .2)
 
 pub swap-row-spec : {M : Type 1} → statement M
 swap-row-spec =

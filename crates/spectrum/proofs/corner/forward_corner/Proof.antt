@@ -48,10 +48,13 @@ forward-requires c κs =
     let corner = s .pre .1 .1 in
     (s .pre .0, (corner-grid corner (lent s) (p .first), (corner-most corner (lent s), corner-filled corner (lent s))))
 
--- after `widen`: the words of the first transform, and those of both halves
-module _ (c : tie.After-widen) where
+-- before the second transform: the words of the first one, and those of both halves
+module _ (c : tie.After-forward-arg2) where
+  abbrev widened : tie.After-widen
+  widened = c .before .before .before
+
   abbrev first : tie.After-forward
-  first = c .before .before .before .before
+  first = widened .before .before .before .before
 
   abbrev start : tie.Start
   start = first .before .before .before
@@ -60,14 +63,14 @@ module _ (c : tie.After-widen) where
   ys = first .forward .last .0
 
   abbrev ts : List ℕ
-  ts = c .widen .last .0
+  ts = widened .widen .last .0
 
   wide : let a = start .args in Wide (a .n) (a .k) (a .n * a .n + a .n * a .k - a .n * a .n) (now (a .words)) ys ts
   wide =
       let a = start .args in
       let kept = first .forward .kept .0 in
       let whole = same-len-mid (a .n * a .n) (a .n * a .n + a .n * a .k - a .n * a .n) (now (a .words)) ys kept in
-      record { kept = kept; whole = c .widen .kept .0 ∙ whole; widened = c .widen .ensures }
+      record { kept = kept; whole = widened .widen .kept .0 ∙ whole; widened = widened .widen .ensures }
 
 widen-requires : tie.Need-widen-requires
 widen-requires c κs = search needs
@@ -76,22 +79,18 @@ slice-relend-prefix-forward : tie.Need-slice-relend-prefix-forward
 slice-relend-prefix-forward c = search needs
 
 slice-aggregate-forward : tie.Need-slice-aggregate-forward
-slice-aggregate-forward c =
-    let w = c .before .before .before in
-    let s = start w in
-    sym (wide-length (s .pre .1 .1) (lent s) (wide w))
+slice-aggregate-forward c = sym (wide-length (start c .pre .1 .1) (lent (start c)) (wide c))
 
 shl-forward : tie.Need-shl-forward
 shl-forward c = search needs
 
 forward-requires-2 : tie.Need-forward-requires-2
 forward-requires-2 c κs =
-    let w = c .before .before .before in
-    let s = start w in
+    let s = start c in
     let p = transforms (s .pre .0) (s .pre .1 .0) in
     let corner = s .pre .1 .1 in
-    let most = wide-most corner (lent s) (wide w) (s .args .bound * 2 ^ s .args .halvings) (rw (p .count) at (first w .forward .ensures .1)) in
-    rw (p .shl) (p .bound, (rw (wide-length corner (lent s) (wide w)) (p .second), (most, wide-filled corner (lent s) (wide w))))
+    let most = wide-most corner (lent s) (wide c) (s .args .bound * 2 ^ s .args .halvings) (rw (p .count) at (first c .forward .ensures .1)) in
+    rw (p .shl) (p .bound, (rw (wide-length corner (lent s) (wide c)) (p .second), (most, wide-filled corner (lent s) (wide c))))
 
 same-length : tie.Need-same-length
 same-length c = search needs
@@ -99,17 +98,17 @@ same-length c = search needs
 returns : tie.Need-returns
 returns c =
     let last = c .before .before in
-    let w = last .before .before .before .before in
-    let s = start w in
+    let second = last .before in
+    let s = start second in
     let a = s .args in
     let zs = last .forward2 .last .0 in
-    let rest = drop (a .n * a .n) (ts w) in
+    let rest = drop (a .n * a .n) (ts second) in
     let side = s .pre .1 .0 .side in
     let p = transforms (s .pre .0) (s .pre .1 .0) in
-    let size = last .forward2 .kept .0 ∙ wide-length (s .pre .1 .1) (lent s) (wide w) in
+    let size = last .forward2 .kept .0 ∙ wide-length (s .pre .1 .1) (lent s) (wide second) in
     let tile =
-    corner-forward (s .pre .1 .1) (lent s) (wide w) (2 ^ a .bits + 1) 2 (a .halvings) zs side
-    (rw (p .count) at (first w .forward .ensures .0)) (rw (p .count) at (last .forward2 .ensures .0)) in (
+    corner-forward (s .pre .1 .1) (lent s) (wide second) (2 ^ a .bits + 1) 2 (a .halvings) zs side
+    (rw (p .count) at (first second .forward .ensures .0)) (rw (p .count) at (last .forward2 .ensures .0)) in (
       front-forward (a .n) zs rest size side tile,
       front-most (a .n) zs rest size (a .bound * 2 ^ a .halvings * 2 ^ a .halvings) (rw (p .count, p .shl) at (last .forward2 .ensures .1)),
     )

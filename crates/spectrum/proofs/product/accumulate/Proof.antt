@@ -27,12 +27,16 @@ abbrev μ-loop : tie.MeasureT-loop
 μ-loop scratch₀ count field i₀ scratch i = count - i
 
 -- in a turn, a word of the second or the third part is as it was lent
-factor : (c : tie.In-loop Inv-loop μ-loop) (p : ℕ) →
-    let a = c .before .before .before .args in
-    a .count ≤ p → p < 3 * a .count → getD (c .before .loop .scratch) p 0 ≤ factorMost (a .field)
-factor c p lo hi =
-    let s = c .before .before .before in
-    omega (arith, c .before .loop .inv .1 .left p (omega arith), s .pre .1 .1 p lo hi)
+module _ (c : tie.In-loop Inv-loop μ-loop) where
+  abbrev start : tie.Start Inv-loop μ-loop
+  start = c .before .before .before
+
+  factor : (p : ℕ) → start .args .count ≤ p → p < 3 * start .args .count → getD (c .before .loop .scratch) p 0 ≤ factorMost (start .args .field)
+  factor p lo hi = omega (arith, c .before .loop .inv .1 .left p (omega arith), start .pre .1 .1 p lo hi)
+
+-- the turn, from where its words are read
+abbrev turn : tie.After-slice-known4 Inv-loop μ-loop → tie.In-loop Inv-loop μ-loop
+turn c = c .before .before .before
 
 product-most : (field : ℕ) → productMost field ≤ 18014948269490176
 product-most field = go (eqb field 4)
@@ -70,20 +74,17 @@ slice-read-product-2 c = search needs
 
 product-requires : tie.Need-product-requires Inv-loop μ-loop
 product-requires c κs =
-    let turn = c .before .before .before in
-    let s = turn .before .before .before in (
-      s .pre .0 .0,
-      s .pre .0 .1,
-      factor turn (c .before .before .before .before .before .before .args .count + turn .before .loop .i) (omega arith) (omega arith),
-      factor turn (s .args .count + (s .args .count + turn .before .loop .i)) (omega arith) (omega arith),
-    )
+    let turn = turn c in
+    let s = start turn in
+    let second = factor turn (s .args .count + turn .before .loop .i) (omega arith) (omega arith) in
+    let third = factor turn (s .args .count + (s .args .count + turn .before .loop .i)) (omega arith) (omega arith) in
+    (s .pre .0 .0, s .pre .0 .1, second, third)
 
 add-scratch : tie.Need-add-scratch Inv-loop μ-loop
 add-scratch c =
-    let turn = c .before .before .before .before in
-    let s = turn .before .before .before in
+    let turn = turn (c .before) in
     let i = turn .before .loop .i in
-    omega (arith, turn .before .loop .inv .1 .left i (omega arith), s .pre .1 .0 i (omega arith), product-most (s .args .field), c .product .ensures .bound)
+    omega (arith, turn .before .loop .inv .1 .left i (omega arith), start turn .pre .1 .0 i (omega arith), product-most (start turn .args .field))
 
 mul-scratch-2 : tie.Need-mul-scratch-2 Inv-loop μ-loop
 mul-scratch-2 c = search needs
@@ -99,8 +100,8 @@ loop-less c = search needs
 
 loop-again : tie.Need-loop-again Inv-loop μ-loop
 loop-again c =
-    let turn = c .before .before .before .before in
-    let s = turn .before .before .before in
+    let turn = turn (c .before) in
+    let s = start turn in
     let loop = turn .before .loop in
     let second = loop .inv .1 .left (s .args .count + loop .i) (omega arith) in
     let third = loop .inv .1 .left (s .args .count + (s .args .count + loop .i)) (omega arith) in
@@ -115,8 +116,7 @@ same-length c = search needs
 
 returns : tie.Need-returns Inv-loop μ-loop
 returns c =
-    let loop = c .before .loop in
-    let all = loop .inv .1 in
+    let all = c .before .loop .inv .1 in
     record {
       sum = λ i l. all .done i (omega arith) .value;
       bound = λ i l. all .done i (omega arith) .bound;

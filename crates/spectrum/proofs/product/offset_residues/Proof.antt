@@ -36,12 +36,11 @@ slice-read-offset-residue c = search needs
 
 offset-residue-requires : tie.Need-offset-residue-requires Inv-loop μ-loop
 offset-residue-requires c κs =
-    let loop = c .before .before .loop in
-    let s = c .before .before .before .before .before .before in
-    let t = s .args .field in
-    let small = s .pre .1 (loop .i) (omega arith) in
-    rw (c .before .before .before .before .bits-of .ensures, c .before .before .before .halvings-of .ensures, loop .inv .1 .left (loop .i) (omega arith))
-    (field-reducible t (s .pre .0 .0) (s .pre .0 .1) _ small)
+    let head = c .before .before in
+    let bits = head .before .before in
+    let s = bits .before .before in
+    rw (bits .bits-of .ensures, head .before .halvings-of .ensures, head .loop .inv .1 .left (head .loop .i) (omega arith))
+    (field-reducible (s .args .field) (s .pre .0 .0) (s .pre .0 .1) _ (s .pre .1 (head .loop .i) (omega arith)))
 
 mul-words : tie.Need-mul-words Inv-loop μ-loop
 mul-words c = search needs
@@ -57,10 +56,11 @@ loop-less c = search needs
 
 loop-again : tie.Need-loop-again Inv-loop μ-loop
 loop-again c =
-    let loop = c .before .before .before .loop in
-    let s = c .before .before .before .before .before .before .before in
-    let made = rw (c .before .before .before .before .before .bits-of .ensures, c .before .before .before .before .halvings-of .ensures) at (c .offset-residue .ensures) in
-    (omega arith, words-next _ (omega arith) (loop .inv .1) (field-residue (s .args .field) (s .pre .0 .0) (s .pre .0 .1) _ _ made))
+    let head = c .before .before .before in
+    let bits = head .before .before in
+    let s = bits .before .before in
+    let made = rw (bits .bits-of .ensures, head .before .halvings-of .ensures) at (c .offset-residue .ensures) in
+    (omega arith, words-next _ (omega arith) (head .loop .inv .1) (field-residue (s .args .field) (s .pre .0 .0) (s .pre .0 .1) _ _ made))
 
 same-length : tie.Need-same-length Inv-loop μ-loop
 same-length c = search needs

@@ -1,5 +1,5 @@
 -- The kernel's part and the window's part are lent, and the product of what comes back is added. Adding has the laws.
-use mathlib.Core.Path.{_≡_, ap, _∙_, subst}
+use mathlib.Core.Path.{_≡_, ap, _∙_}
 use mathlib.Core.List.{List}
 use Prim.Native.Nat.{ℕ, _+_, _*_, _-_, _≤_, _<_}
 use native.Mathlib.Nat.{mul-le-mul}
@@ -12,7 +12,7 @@ use denote.Ref.{now}
 use Rattle.layer.specs.Direct.{planeOf}
 use Rattle.layer.specs.TileSizeLaws.{length-high}
 use Rattle.load.specs.LoadLaws.{plane-below}
-use Rattle.tile.specs.Channel.{area, KernelReady}
+use Rattle.tile.specs.Channel.{area}
 use Rattle.tile.proofs.KernelReady.{kernel-lent}
 use Rattle.tile.proofs.Adding.{Lending, Transformed, transformed, accumulate-asks, kernel-added, added-next}
 use Rattle.tile.proofs.channel.add_channel.Statement.{statement}
@@ -73,14 +73,18 @@ module _ (c : tie.After-planes-to) where
       let r = start (c .before) .pre .0 .0 .plan .shape in
       omega (arith, plane-lt, mul-le-mul (r .outputs-high) (r .inputs-high))
 
+-- the planes, from where the kernel's part is lent
+abbrev planes : tie.After-struct-known2 → tie.After-planes-to
+planes c = c .before .before
+
 mul-plane : tie.Need-mul-plane
 mul-plane c = omega (arith, plane-high (c .before))
 
 add-plane : tie.Need-add-plane
-add-plane c = omega (arith, plane-high (c .before .before))
+add-plane c = omega (arith, plane-high (planes c))
 
 mul-ready-kernel : tie.Need-mul-ready-kernel
-mul-ready-kernel c = omega (arith, area-high (c .before .before .before))
+mul-ready-kernel c = omega (arith, area-high (planes c .before))
 
 sub-ready-kernel : tie.Need-sub-ready-kernel
 sub-ready-kernel c = search needs
@@ -89,7 +93,7 @@ part-ready-kernel-start : tie.Need-part-ready-kernel-start
 part-ready-kernel-start c = search needs
 
 part-ready-kernel-end : tie.Need-part-ready-kernel-end
-part-ready-kernel-end c = omega (arith, room (c .before .before .before))
+part-ready-kernel-end c = omega (arith, room (planes c .before))
 
 -- the kernel's part is lent
 part-length : (a k : ℕ) (xs : List ℕ) → a + k ≤ length xs → length (midOf a k xs) ≡ k
@@ -102,7 +106,7 @@ kernel-part c =
 
 ready-kernel-requires : tie.Need-ready-kernel-requires
 ready-kernel-requires c κs =
-    let planes = c .before .before .before in
+    let planes = planes (c .before) in
     let p = planes .before in
     let s = start p in
     let lent = s .pre .0 .0 in (
@@ -117,7 +121,7 @@ ready-kernel-requires c κs =
 -- and comes back
 module _ (c : tie.After-ready-kernel) where
   abbrev sizes : tie.After-transform-length
-  sizes = c .before .before .before .before .before
+  sizes = planes (c .before .before) .before
 
   abbrev ks : List ℕ
   ks = c .ready-kernel .last .0
@@ -150,10 +154,9 @@ part-window-spectrum-end c = omega (arith, scratch-room (c .before .before))
 
 window-spectrum-requires : tie.Need-window-spectrum-requires
 window-spectrum-requires c κs =
-    let k = c .before .before .before in
-    let s = start (sizes k) in
-    let lent = s .pre .0 .0 in
-    ((lent .plan .shape, window-part k), (lent .map-length, s .pre .0 .2, s .pre .0 .1 .row, s .pre .0 .1 .column))
+    let first = c .before .before .before in
+    let lent = start (sizes first) .pre .0 in
+    ((lent .0 .plan .shape, window-part first), (lent .0 .map-length, lent .2, lent .1 .row, lent .1 .column))
 
 -- the window's part comes back: both transforms stand in scratch
 module _ (c : tie.After-window-spectrum) where
@@ -186,17 +189,15 @@ module _ (c : tie.After-window-spectrum) where
       (putMid (2 * a) (3 * a - 2 * a) (putMid a (3 * a - a) (now (g .scratch)) (ks first)) ws)
   both =
       let g = given .args in
-      let planes = first .before .before .before .before in
       transformed (g .layer) (now (g .map)) (now (g .kernel)) (g .origin) lending
-      (subst (λ (p : ℕ). KernelReady (g .layer) (now (g .kernel)) p 0 (ks first)) (plane-is planes) (first .ready-kernel .ensures))
-      (c .window-spectrum .ensures)
+      (rw (plane-is (planes (first .before .before))) at (first .ready-kernel .ensures)) (c .window-spectrum .ensures)
 
 accumulate-requires : tie.Need-accumulate-requires
 accumulate-requires c κs =
-    let w = c .before .before .before in
-    let s = given w in
-    let g = s .args in
-    accumulate-asks (g .layer) (now (g .map)) (now (g .kernel)) (g .origin) (s .pre .0 .0 .plan) (both w) (area-is (sizes (first w))) (s .pre .0 .2) (s .pre .1 .0)
+    let second = c .before .before .before in
+    let g = given second .args in
+    accumulate-asks (g .layer) (now (g .map)) (now (g .kernel)) (g .origin) (given second .pre .0 .0 .plan) (both second)
+    (area-is (sizes (first second))) (given second .pre .0 .2) (given second .pre .1 .0)
 
 same-length : tie.Need-same-length
 same-length c = search needs
@@ -204,13 +205,12 @@ same-length c = search needs
 returns : tie.Need-returns
 returns c =
     let last = c .before .before in
-    let w = last .before .before .before .before in
-    let s = given w in
-    let g = s .args in
-    let plan = s .pre .0 .0 .plan in
-    let is = area-is (sizes (first w)) in (
-      added-next (g .layer) (now (g .map)) (now (g .kernel)) (g .origin) plan (both w) is (last .accumulate .ensures) (last .accumulate .kept .0),
-      kernel-added (g .layer) (now (g .map)) (now (g .kernel)) (g .origin) (both w) is (last .accumulate .ensures),
+    let second = last .before .before .before .before in
+    let g = given second .args in
+    let plan = given second .pre .0 .0 .plan in
+    let is = area-is (sizes (first second)) in (
+      added-next (g .layer) (now (g .map)) (now (g .kernel)) (g .origin) plan (both second) is (last .accumulate .ensures) (last .accumulate .kept .0),
+      kernel-added (g .layer) (now (g .map)) (now (g .kernel)) (g .origin) (both second) is (last .accumulate .ensures),
     )
 
 pub add-channel-spec : {M : Type 1} → statement M

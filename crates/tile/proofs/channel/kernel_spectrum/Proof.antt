@@ -48,17 +48,18 @@ part-load-kernel-end c = omega (arith, part-le (part (c .before)))
 
 load-kernel-requires : tie.Need-load-kernel-requires
 load-kernel-requires c κs =
-    let p = part (c .before .before) in
-    let s = start (c .before .before) in
-    ((s .pre .0 .0, part-length p), s .pre .1)
+    let sized = c .before .before in
+    ((start sized .pre .0 .0, part-length (part sized)), start sized .pre .1)
+
+-- the size, from the corner that is loaded
+abbrev sized : tie.After-load-kernel → tie.After-transform-length
+sized c = c .before .before .before
 
 corner-spectrum-requires : tie.Need-corner-spectrum-requires
 corner-spectrum-requires c κs =
     let loaded = c .before .before .before in
-    let p = part (loaded .before .before .before) in (
-      start (loaded .before .before .before) .pre .0 .0 .field-high,
-      cornered p (loaded .load-kernel .last .0) (loaded .load-kernel .kept .0) (loaded .load-kernel .ensures),
-    )
+    let made = loaded .load-kernel in
+    (start (sized loaded) .pre .0 .0 .field-high, cornered (part (sized loaded)) (made .last .0) (made .kept .0) (made .ensures))
 
 same-length : tie.Need-same-length
 same-length c = search needs
@@ -67,8 +68,7 @@ returns : tie.Need-returns
 returns c =
     let last = c .before .before in
     let loaded = last .before .before .before .before in
-    let p = part (loaded .before .before .before) in
-    kernel-ready p (loaded .load-kernel .last .0) (loaded .load-kernel .kept .0) (loaded .load-kernel .ensures)
+    kernel-ready (part (sized loaded)) (loaded .load-kernel .last .0) (loaded .load-kernel .kept .0) (loaded .load-kernel .ensures)
     (last .corner-spectrum .last .0) (last .corner-spectrum .ensures .0) (last .corner-spectrum .ensures .1)
 
 pub kernel-spectrum-spec : {M : Type 1} → statement M

@@ -32,10 +32,10 @@ loop-holds c =
 
 add-channel-requires : tie.Need-add-channel-requires Inv-loop μ-loop
 add-channel-requires c κs =
-    let loop = c .before .before .before .loop in
-    let s = c .before .before .before .before .before in
+    let head = c .before .before .before in
+    let s = head .before .before in
     let lent = s .pre .0 .0 in
-    let sum = loop .inv .1 in (
+    let sum = head .loop .inv .1 in (
       (
         record {
           plan = lent .plan;
@@ -46,7 +46,7 @@ add-channel-requires c κs =
         s .pre .0 .1,
         omega arith,
       ),
-      (sum .bound, λ kept. loop .inv .2 (omega (arith, s .pre .1 .1 kept .0)) kept),
+      (sum .bound, λ kept. head .loop .inv .2 (omega (arith, s .pre .1 .1 kept .0)) kept),
     )
 
 add-c : tie.Need-add-c Inv-loop μ-loop
@@ -57,12 +57,11 @@ loop-less c = search needs
 
 loop-again : tie.Need-loop-again Inv-loop μ-loop
 loop-again c =
-    let s = c .before .before .before .before .before .before .before .before in
-    let loop = c .before .before .before .before .before .before .loop in
+    let head = c .before .before .before .before .before .before in
     let added = c .before .before .add-channel .ensures in
-    let next : loop .c + 1 - 1 ≡ loop .c = omega arith in (
+    let next : head .loop .c + 1 - 1 ≡ head .loop .c = omega arith in (
       omega arith,
-      added .0 (now (s .args .scratch)) (loop .inv .1),
+      added .0 (now (head .before .before .args .scratch)) (head .loop .inv .1),
       λ none _. absurd (omega arith),
       λ _. rw next (added .1),
     )
@@ -72,8 +71,9 @@ same-length c = search needs
 
 returns : tie.Need-returns Inv-loop μ-loop
 returns c =
-    let s = c .before .before .before .before in
-    let loop = c .before .before .loop in
+    let head = c .before .before in
+    let loop = head .loop in
+    let s = head .before .before in
     let g = s .args in
     let e : loop .c ≡ g .layer .inputs = omega arith in (
       subst (λ (count : ℕ). Added (g .layer) (now (g .map)) (now (g .kernel)) (g .origin) count (now (g .scratch)) (loop .scratch)) e (loop .inv .1),

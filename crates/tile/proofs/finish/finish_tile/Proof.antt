@@ -85,14 +85,14 @@ add-channels-requires c κs =
 
 -- scratch with the sum over all map channels
 module _ (c : tie.After-add-channels) where
+  abbrev cleared : tie.After-clear
+  cleared = c .before .before .before .before
+
   abbrev sizes : tie.After-transform-length
-  sizes = c .before .before .before .before .before .before .before
+  sizes = cleared .before .before .before
 
   abbrev given : tie.Start
   given = start sizes
-
-  abbrev cleared : tie.After-clear
-  cleared = c .before .before .before .before
 
   abbrev ys : List ℕ
   ys = c .add-channels .last .0
