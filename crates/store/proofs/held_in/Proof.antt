@@ -35,11 +35,13 @@ module _ (c : tie.After-first-held) where
   start = sided .before
 
   first-is : let a = start .args in c .first-held .result ≡ ceilingDiv (a .tile * tileSide (a .layer)) (gridStep (a .layer))
-  first-is = cc
+  first-is = rw (c .before .before .tile-side .ensures, c .before .grid-step .ensures) at (c .first-held .ensures)
 
 end-is : (c : tie.After-end-held) → let a = start (c .before) .args in
     c .end-held .result ≡ min (ceilingDiv ((a .tile + 1) * tileSide (a .layer)) (gridStep (a .layer))) (a .count)
-end-is c = cc
+end-is c =
+    let steps = c .before .before in
+    rw (steps .before .tile-side .ensures, steps .grid-step .ensures) at (c .end-held .ensures)
 
 -- the first lies in the tile and before the end
 inside : (c : tie.After-end-held) → let tile = start (c .before) .args .tile in let first = c .before .first-held .result in
@@ -88,7 +90,8 @@ returns : tie.Need-returns
 returns c =
     let found = c .before .before in
     let s = start found in
-    held-by _ (s .pre .0) _ _ _ _ (s .pre .1) (s .pre .2) (first-is found) (end-is (c .before)) (cc)
+    held-by _ (s .pre .0) _ _ _ _ (s .pre .1) (s .pre .2) (first-is found) (end-is (c .before))
+    (rw (found .before .before .tile-side .ensures, found .before .grid-step .ensures))
 
 pub held-in-spec : {M : Type 1} → statement M
 held-in-spec =

@@ -1,4 +1,5 @@
 -- `store_rows` goes on row by row; the words of each row are among the N by N.
+use mathlib.Core.Path.{_≡_, ap₂}
 use Prim.Native.Nat.{ℕ, _+_, _-_, _*_, _<_, _≤_}
 use native.Mathlib.Nat.{le-antisymm, mul-le-mul, mul-le-mul-left, mul-le-mul-right}
 use native.Mathlib.Omega.{arith}
@@ -6,6 +7,8 @@ use borrow.Author.Needs.{needs}
 use lib.Arith.{digits-lt}
 use lib.ListN.{length}
 use denote.Ref.{now}
+use Rattle.fermat.specs.Field.{transformLength}
+use Rattle.layer.specs.Shape.{gridStep}
 use Rattle.layer.specs.TileSizeLaws.{length-high}
 use Rattle.store.specs.Held.{RowsStored}
 use Rattle.store.proofs.StoredRows.{words-within, offset-high, row-storable, rows-none, rows-next}
@@ -50,6 +53,15 @@ module _ (c : tie.Then1 Inv-loop μ-loop) where
       let column : s .args .columns .word < n .result = omega (arith, s .pre .0 .2) in
       let high : n .result ≤ 64 = omega (arith, length-high _ (s .pre .0 .0 .shape)) in
       (row, omega (arith, digits-lt row column, mul-le-mul {n₂ = 64} {m₂ = 64} high high), high)
+
+  -- where its words begin
+  first-is : let a = start sized .args in let r = c .before .before .loop .r in
+      (a .rows .word + r * sized .before .grid-step .result) * sized .before .before .transform-length .result + a .columns .word
+      ≡ (a .rows .word + r * gridStep (a .layer)) * transformLength (a .layer .field) + a .columns .word
+  first-is =
+      let a = start sized .args in
+      ap₂ (λ (step n : ℕ). (a .rows .word + c .before .before .loop .r * step) * n + a .columns .word)
+      (sized .before .grid-step .ensures) (sized .before .before .transform-length .ensures)
 
 transform-length-requires : tie.Need-transform-length-requires Inv-loop μ-loop
 transform-length-requires c κs = search needs
@@ -101,7 +113,7 @@ store-row-requires c κs =
       rw (h .offset-of .ensures) (offset-high _ (s .pre .0 .0 .shape .field-high)),
       omega (arith, room turn),
       row-storable (s .args .layer) (s .args .rows) (s .args .columns) (now (s .args .words)) (s .pre .1 .1 .0) (s .pre .0 .1) (s .pre .0 .2)
-          (s .pre .1 .1 .1) (turn .before .before .loop .r) (turn .if1 .taken) (h .offset-of .ensures) (h .before .grid-step .ensures) (cc),
+          (s .pre .1 .1 .1) (turn .before .before .loop .r) (turn .if1 .taken) (h .offset-of .ensures) (h .before .grid-step .ensures) (first-is turn),
     )
 
 add-r : tie.Need-add-r Inv-loop μ-loop
@@ -118,7 +130,7 @@ loop-again c =
     let loop = turn .before .before .loop in (
       omega arith,
       rows-next (s .args .layer) (s .args .rows) (s .args .columns) (now (s .args .words)) (s .pre .1 .0 .1) (loop .r)
-          (h .offset-of .ensures) (h .before .grid-step .ensures) (cc) (loop .inv .1) (c .before .store-row .ensures),
+          (h .offset-of .ensures) (h .before .grid-step .ensures) (first-is turn) (loop .inv .1) (c .before .store-row .ensures),
     )
 
 same-length : tie.Need-same-length Inv-loop μ-loop

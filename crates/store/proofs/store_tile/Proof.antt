@@ -1,5 +1,5 @@
 -- `store_tile` finds what the tile holds and lends its channel. That the rows stored are the tile stored is shown in HeldPlaces.
-use mathlib.Core.Path.{_≡_}
+use mathlib.Core.Path.{_≡_, ap}
 use Prim.Native.Nat.{ℕ, _+_, _-_, _*_, _≤_}
 use native.Mathlib.Nat.{mul-le-mul-right}
 use native.Mathlib.Omega.{arith}
@@ -34,7 +34,9 @@ module _ (c : tie.After-held-in2) where
   from = let l = start (c .before) .args .layer in c .before .before .place-of .result .channel * (l .rows * l .columns)
 
   from-is : let a = start (c .before) .args in from ≡ tileChannel (a .layer) (a .tile) * (a .layer .rows * a .layer .columns)
-  from-is = cc
+  from-is =
+      let l = start (c .before) .args .layer in
+      ap (λ (k : ℕ). k * (l .rows * l .columns)) (c .before .before .place-of .ensures .0)
 
   -- the channel is within the output
   part : let a = start (c .before) .args in from + a .layer .rows * a .layer .columns ≤ length (now (a .output))

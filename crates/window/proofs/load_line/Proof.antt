@@ -1,5 +1,5 @@
 -- `load_line` loads the map row that the grid row holds, or clears.
-use mathlib.Core.Path.{_≡_, sym, ap, _∙_, subst}
+use mathlib.Core.Path.{_≡_, sym, ap, ap₂, _∙_, subst}
 use Prim.Native.Nat.{ℕ, _+_, _*_, _-_, _/_, _≤_, _<_}
 use native.Mathlib.Omega.{arith}
 use borrow.Author.Needs.{needs}
@@ -40,7 +40,7 @@ module _ (c : tie.After-edge-of) where
   row = (start .args .line - c .edge-of .result) / start .args .shown .spacing
 
   same-row : let a = start .args in row ≡ (a .line - edge (a .layer)) / spacing (a .layer)
-  same-row = cc
+  same-row = ap₂ (λ (e s : ℕ). (start .args .line - e) / s) (c .edge-of .ensures) (start .pre .0 .1 .spacing-is)
 
   row-of : (c .edge-of .result ≤ start .args .line) × (row < start .args .layer .height)
   row-of =

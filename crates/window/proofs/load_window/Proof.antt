@@ -1,6 +1,6 @@
 -- Row after row is loaded: what a row shows is the same for all, but for the map row.
-use mathlib.Core.Path.{_≡_}
-use Prim.Native.Nat.{_+_, _*_, _-_, _≤_}
+use mathlib.Core.Path.{_≡_, sym, ap, _∙_}
+use Prim.Native.Nat.{ℕ, _+_, _*_, _-_, _≤_}
 use native.Mathlib.Nat.{le-antisymm}
 use native.Mathlib.Omega.{arith}
 use borrow.Author.Needs.{needs}
@@ -44,7 +44,8 @@ fits : (c : tie.In-loop Inv-loop μ-loop) → let n = sized (c .before) .transfo
     c .before .loop .u * n + n ≤ length (start (c .before) .args .words .now)
 fits c =
     let n = sized (c .before) .transform-length .result in
-    let whole : n * n ≡ length (start (c .before) .args .words .now) = cc in
+    let whole : n * n ≡ length (start (c .before) .args .words .now) =
+    ap (λ (k : ℕ). k * k) (sized (c .before) .transform-length .ensures) ∙ sym (start (c .before) .pre .0 .1) in
     omega (arith, part-ends (c .before .loop .u) n n (c .loop-test .taken))
 
 mul-load-line : tie.Need-mul-load-line Inv-loop μ-loop

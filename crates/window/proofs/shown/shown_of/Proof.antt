@@ -1,5 +1,5 @@
 -- `shown_of` computes the figures of a row. It rests on the laws of steps across a line, here of `spacing` on the grid.
-use mathlib.Core.Path.{_≡_, refl}
+use mathlib.Core.Path.{_≡_, refl, ap}
 use Prim.Native.Nat.{ℕ, _+_, _*_, _-_, _≤_, _<_}
 use native.Mathlib.Omega.{arith}
 use borrow.Author.Needs.{needs}
@@ -38,7 +38,8 @@ module _ (c : tie.After-ceiling-div) where
   start = spaced .before
 
   first-is : let a = start .args in c .ceiling-div .result ≡ ceilingDiv (a .column - edge (a .layer)) (spacing (a .layer))
-  first-is = cc
+  first-is =
+      rw (c .before .before .before .spacing-of .ensures, c .before .above .ensures, c .before .before .edge-of .ensures) at (c .ceiling-div .ensures)
 
   bounds : let column = start .args .column in let before = c .before .before .edge-of .result in
       let steps = c .ceiling-div .result * spaced .spacing-of .result in
@@ -46,7 +47,8 @@ module _ (c : tie.After-ceiling-div) where
   bounds =
       let r = start .pre .0 in
       let column = start .args .column in
-      let same : c .ceiling-div .result * spaced .spacing-of .result ≡ c .ceiling-div .result * spacing (start .args .layer) = cc in (
+      let same : c .ceiling-div .result * spaced .spacing-of .result ≡ c .ceiling-div .result * spacing (start .args .layer) =
+      ap (λ (k : ℕ). c .ceiling-div .result * k) (spaced .spacing-of .ensures) in (
         omega (arith, first-high _ r column _ _ first-is refl),
         omega (arith, first-covers _ r column _ _ first-is refl),
         omega (arith, begin-high _ r column _ _ first-is refl),
