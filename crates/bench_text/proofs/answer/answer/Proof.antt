@@ -22,11 +22,14 @@ use Rattle.bench_text.proofs.answer.answer.Tie as tie
 
 -- the header
 module _ (c : tie.After-read-header) where
-  abbrev input : List ℕ
-  input = now (c .before .before .before .before .before .args .input)
+  abbrev cut : tie.After-lesser
+  cut = c .before .before .before
 
-  text-is : take (c .before .before .before .lesser .result - 0) input ≡ take 16384 input
-  text-is = rw (sub-zero (c .before .before .before .lesser .result), c .before .before .before .lesser .ensures) (take-min 16384 input)
+  abbrev input : List ℕ
+  input = now (cut .before .before .args .input)
+
+  text-is : take (cut .lesser .result - 0) input ≡ take 16384 input
+  text-is = ap (λ (n : ℕ). take n input) (sub-zero (cut .lesser .result) ∙ cut .lesser .ensures) ∙ take-min 16384 input
 
   reads : c .read-header .result .valid ≡ headerReads (inputWords input)
   reads = rw text-is at (c .read-header .ensures .0 .reads)
@@ -61,7 +64,7 @@ accepted c = sym (code-is (c .before)) ∙ c .if2 .left
 -- the words after the header, of an input that is not long
 body-is : (c : tie.Else3) →
     let h = header (c .before .before) in
-    let text = take (h .before .before .before .lesser .result - 0) (input h) in
+    let text = take (cut h .lesser .result - 0) (input h) in
     wordsOf false (drop (h .read-header .result .at) text) ≡ drop 14 (inputWords (input h))
 body-is c =
     let p = c .before .before in

@@ -1,6 +1,6 @@
 -- `read_body`: the words of the map, those of the kernel and no more are the whole body. The words after the map are the body without
 -- its first ones.
-use mathlib.Core.Path.{_≡_}
+use mathlib.Core.Path.{_≡_, ap, _∙_}
 use mathlib.Core.Bool.{true, false}
 use mathlib.Core.List.{List}
 use Prim.Native.Nat.{ℕ}
@@ -13,35 +13,39 @@ use Rattle.bench_text.proofs.Bodies.{map-missing, kernel-missing, body-
 use Rattle.bench_text.proofs.answer.read_body.Statement.{statement}
 use Rattle.bench_text.proofs.answer.read_body.Tie as tie
 
--- the call, and the words from its place on
-abbrev call : tie.Else1 → tie.Start
-call c = c .before .before .before .before .before .before
-
+-- the words from the place of the call on
 abbrev body : tie.Start → List (List ℕ)
 body s = wordsOf false (drop (s .args .at) (now (s .args .text)))
 
 -- the words of the map are there, and those after them are the rest of the body
 module _ (c : tie.Else1) where
-  map-there : c .before .before .before .read-values .result .valid ≡ true
+  abbrev map : tie.After-read-values
+  map = c .before .before .before
+
+  abbrev start : tie.Start
+  start = map .before .before .before
+
+  map-there : map .read-values .result .valid ≡ true
   map-there = not-false _ (c .if1 .left)
 
-  after-map : wordsOf false (drop (c .before .before .before .read-values .result .at) (now (call c .args .text)))
-      ≡ drop (length (now (call c .args .map))) (body (call c))
-  after-map = c .before .before .before .read-values .ensures .0 .rest map-there
+  after-map : wordsOf false (drop (map .read-values .result .at) (now (start .args .text))) ≡ drop (length (now (start .args .map))) (body start)
+  after-map = map .read-values .ensures .0 .rest map-there
 
 -- so are those of the kernel
 module _ (c : tie.Else2) where
-  kernel-there : c .before .before .before .read-values2 .result .valid ≡ true
+  abbrev kernel : tie.After-read-values2
+  kernel = c .before .before .before
+
+  abbrev read : tie.Else1
+  read = kernel .before .before
+
+  kernel-there : kernel .read-values2 .result .valid ≡ true
   kernel-there = not-false _ (c .if2 .left)
 
-  after-kernel :
-      let kernel = c .before .before .before in
-      let s = call (kernel .before .before) in
+  after-kernel : let s = start read in
       wordsOf false (drop (kernel .read-values2 .result .at) (now (s .args .text)))
       ≡ drop (length (now (s .args .kernel))) (drop (length (now (s .args .map))) (body s))
-  after-kernel =
-      let kernel = c .before .before .before in
-      rw (after-map (kernel .before .before)) at (kernel .read-values2 .ensures .0 .rest kernel-there)
+  after-kernel = kernel .read-values2 .ensures .0 .rest kernel-there ∙ ap (drop (length (now (start read .args .kernel)))) (after-map read)
 
 read-values-requires : tie.Need-read-values-requires
 read-values-requires c κs = search needs
@@ -79,13 +83,13 @@ same-length-5 c = search needs
 
 returns-3 : tie.Need-returns-3
 returns-3 c =
-    let kernel = c .before .before .before .before in
-    let map = kernel .before .before .before .before .before in
-    body-there (map .read-values .ensures .0 .reads) (map-there (kernel .before .before))
-    (rw (after-map (kernel .before .before)) at (kernel .read-values2 .ensures .0 .reads)) (kernel-there (c .before))
+    let words = c .before .before .before .before in
+    let first = words .before .before in
+    body-there (map first .read-values .ensures .0 .reads) (map-there first)
+    (rw (after-map first) at (words .read-values2 .ensures .0 .reads)) (kernel-there (c .before))
     (rw (after-kernel (c .before)) at (c .no-more .ensures))
-    (map .read-values .ensures .1 (map-there (kernel .before .before)))
-    (rw (after-map (kernel .before .before)) at (kernel .read-values2 .ensures .1 (kernel-there (c .before))))
+    (map first .read-values .ensures .1 (map-there first))
+    (rw (after-map first) at (words .read-values2 .ensures .1 (kernel-there (c .before))))
 
 pub read-body-spec : {M : Type 1} → statement M
 read-body-spec =
