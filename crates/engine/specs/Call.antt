@@ -11,7 +11,7 @@ use Rattle.base.specs.Rules.{outcome}
 use Rattle.layer.specs.declared.shape.Layer.{Layer}
 use Rattle.layer.specs.Direct.{directAt}
 use Rattle.checks.specs.Engine.{Engine}
-use Rattle.checks.specs.Checks.{jobCode}
+use Rattle.checks.specs.Checks.{runCode, jobCode}
 use Rattle.engine.specs.declared.job.Job.{Job}
 use Rattle.engine.specs.declared.job.Progress.{Progress}
 
@@ -72,3 +72,14 @@ module _ (engine : Engine) where
           (finished (job .layer) map kernel (job .next) (job .next + countOf job budget) output) output
       pub clears : scratch-left ≡ outcome (callCode job map kernel (length output) (length scratch))
           (cleared (engine .words (job .layer)) scratch) scratch
+
+  -- ---- a whole run: the job from part 0 with the total as its budget
+
+  -- what it leaves in the output and in scratch
+  abbrev pub outputLeft : Layer → (map kernel output : List ℤ) → (scratch : ℕ) → List ℤ
+  outputLeft l map kernel output scratch =
+      outcome (runCode engine l map kernel (length output) scratch) (finished l map kernel 0 (engine .total l) output) output
+
+  abbrev pub scratchLeft : Layer → (map kernel : List ℤ) → (output : ℕ) → (scratch : List ℕ) → List ℕ
+  scratchLeft l map kernel output scratch =
+      outcome (runCode engine l map kernel output (length scratch)) (cleared (engine .words l) scratch) scratch

@@ -1,14 +1,16 @@
 -- What a call answers and keeps, and what a list of calls comes to: the job and the output after it, by the sum of the accepted calls'
 -- budgets. It rests on the laws of the checks and on those of finished parts.
 use mathlib.Core.Path.{_≡_, refl, sym, ap, _∙_}
+use mathlib.Core.Bool.{Bool, true, false, cond}
 use mathlib.Core.List.{List, [], _∷_}
 use Prim.Native.Nat.{ℕ, zero, suc, _+_, _-_, _<_, min}
 use native.Mathlib.Nat.{add-zero, zero-add, add-assoc}
 use native.Mathlib.Omega.{arith}
+use lib.Dec.{ltb}
 use lib.IntN.{ℤ}
-use lib.ListN.{length}
+use lib.ListN.{length, getD}
 use Rattle.algebra.specs.Places.{table}
-use Rattle.algebra.specs.PlacesLaws.{length-table}
+use Rattle.algebra.specs.PlacesLaws.{length-table, getD-table, table-of}
 use Rattle.base.specs.Rules.{outcome}
 use Rattle.layer.specs.declared.shape.Layer.{Layer}
 use Rattle.layer.specs.Direct.{directAt}
@@ -87,6 +89,21 @@ module _ {engine : Engine} where
     pub call-callable : Lawful engine → call .progress .code ≡ 0
         → Callable engine (call .job .layer) (call .map) (call .kernel) (length (call .output)) (length (call .scratch))
     call-callable lawful e = job-callable engine (call .job .layer) _ _ _ _ lawful (call .job .next) (sym code-is ∙ e) .0
+
+-- words that were cleared once are cleared
+module _ (count : ℕ) (words : List ℕ) where
+  cleared-low : (i : ℕ) → i < length (cleared count words) → ltb i count ≡ true → getD (cleared count words) i 0 ≡ 0
+  unfolding cleared
+  cleared-low i below e = getD-table 0 (length words) _ i (omega (arith, length-table (length words) (λ k. cond (ltb k count) 0 (getD words k 0)))) ∙ rw e
+
+  by-test : (i : ℕ) → i < length (cleared count words) → (t : Bool) → ltb i count ≡ t
+      → getD (cleared count words) i 0 ≡ cond t 0 (getD (cleared count words) i 0)
+  by-test i below true e = cleared-low i below e
+  by-test i below false e = refl
+
+  pub cleared-again : cleared count (cleared count words) ≡ cleared count words
+  unfolding cleared
+  cleared-again = sym (table-of 0 _ _ (cleared count words) refl (λ i below. by-test i below (ltb i count) refl))
 
 -- ---- call after call
 

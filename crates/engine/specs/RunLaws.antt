@@ -1,7 +1,7 @@
--- A whole run: it is a list of one call, and an accepted one leaves the direct sums. It rests on the laws of lists of calls.
+-- A whole run: it is a list of one call, an accepted one leaves the direct sums, and what any leaves. It rests on the laws of lists of calls.
 use mathlib.Core.Path.{_≡_, refl}
 use mathlib.Core.List.{List, [], _∷_}
-use Prim.Native.Nat.{ℕ}
+use Prim.Native.Nat.{ℕ, _+_, _-_, min}
 use native.Mathlib.Omega.{arith}
 use lib.IntN.{ℤ}
 use lib.ListN.{length}
@@ -9,8 +9,9 @@ use Rattle.algebra.specs.Places.{table}
 use Rattle.layer.specs.declared.shape.Layer.{Layer}
 use Rattle.layer.specs.Direct.{directAt}
 use Rattle.checks.specs.Engine.{Engine, Lawful}
+use Rattle.checks.specs.ChecksLaws.{run-code}
 use Rattle.engine.specs.declared.job.Progress.{Progress}
-use Rattle.engine.specs.Call.{startOf, Called}
+use Rattle.engine.specs.Call.{startOf, Called, outputLeft, scratchLeft}
 use Rattle.engine.specs.Calls.{JobCalls, outputOf, Reaches}
 use Rattle.engine.specs.CallsLaws.{reached}
 
@@ -48,3 +49,12 @@ module _ {engine : Engine} {l : Layer} {map kernel output : List ℤ} {scratch :
       -- and then every output is its direct sum
       pub run-frame : Lawful engine → progress .code ≡ 0 → output-left ≡ table (length output) (directAt l map kernel)
       run-frame lawful e = reached (run-list called) lawful (run-reaches e)
+
+      -- what it leaves
+      pub run-output-left : output-left ≡ outputLeft engine l map kernel output (length scratch)
+      run-output-left =
+          let all : 0 + min (engine .total l) (engine .total l - 0) ≡ engine .total l = omega arith in
+          rw (run-code engine l map kernel (length output) (length scratch), all) at (called .writes)
+
+      pub run-scratch-left : scratch-left ≡ scratchLeft engine l map kernel (length output) scratch
+      run-scratch-left = rw (run-code engine l map kernel (length output) (length scratch)) at (called .clears)

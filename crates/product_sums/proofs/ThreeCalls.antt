@@ -11,16 +11,17 @@ use lib.IntN.{ℤ}
 use lib.ListN.{length}
 use borrow.Author.Tests.{eqb-true}
 use Rattle.base.specs.Rules.{outcome}
+use Rattle.base.specs.RulesLaws.{outcome-made, outcome-lent}
 use Rattle.layer.specs.Planned.{Planned}
 use Rattle.layer.specs.declared.shape.Layer.{Layer}
 use Rattle.checks.specs.Engine.{Engine, Lawful}
 use Rattle.checks.specs.Checks.{runCode, planOf}
-use Rattle.checks.specs.ChecksLaws.{index-passes, planned-total}
+use Rattle.checks.specs.ChecksLaws.{index-passes, run-code, planned-total}
 use Rattle.engine.specs.declared.job.Job.{Job}
 use Rattle.engine.specs.declared.job.Progress.{Progress}
-use Rattle.engine.specs.Call.{startOf, callCode, Called}
+use Rattle.engine.specs.Call.{startOf, finished, cleared, callCode, Called, outputLeft, scratchLeft}
 use Rattle.engine.specs.Calls.{Call, JobCalls, acceptedBudgets, Reaches}
-use Rattle.engine.specs.CallsLaws.{called-code, output-length, scratch-length, call-callable, calls-job}
+use Rattle.engine.specs.CallsLaws.{called-code, output-length, scratch-length, call-callable, cleared-again, calls-job, calls-output}
 use Rattle.product_sums.specs.ProductSums.{Paired, SumsAgree}
 use Rattle.product_sums.specs.CallsMade.{CallsMade}
 use Rattle.product_sums.specs.ProductSumsLaws.{product-sums}
@@ -115,7 +116,7 @@ module _ {engine : Engine} (lawful : Lawful engine) (l : Layer) (budget : ℕ) (
       chained = (starts, refl, (λ e. (refl, refl)), (refl, refl, (λ e. absurd (broken e)), tt));
     }
 
-    pub last-code : progress-3 .code ≡ runCode engine l map kernel (length output-0) (length scratch-0)
+    last-code : progress-3 .code ≡ runCode engine l map kernel (length output-0) (length scratch-0)
     last-code =
         let reached : ℕ = min (engine .total l) (acceptedBudgets (first-two .calls)) in
         called-code third
@@ -128,8 +129,69 @@ module _ {engine : Engine} (lawful : Lawful engine) (l : Layer) (budget : ℕ) (
         let total = planned-total engine l map kernel (length output-0) (length scratch-0) (sym last-code ∙ e) in
         record { some = rw e (omega arith); enough = rw e (omega (arith, total)) }
 
-    pub three-calls : CallsMade engine l map kernel output-0 output-3 (eqb (progress-3 .code) 0)
-    three-calls = record {
+    -- ---- what the calls leave is what a run leaves
+
+    abbrev code : ℕ
+    code = runCode engine l map kernel (length output-0) (length scratch-0)
+
+    -- the first call is answered as a run is, and the second is refused
+    first-code : callCode engine job map kernel (length output-0) (length scratch-0) ≡ code
+    first-code =
+        ap (λ (j : Job). callCode engine j map kernel (length output-0) (length scratch-0)) starts
+        ∙ run-code engine l map kernel (length output-0) (length scratch-0)
+
+    second-output : output-2 ≡ output-1
+    second-output = second .writes ∙ outcome-lent _ _ _ (λ e. broken (called-code second ∙ e))
+
+    second-scratch : scratch-2 ≡ scratch-1
+    second-scratch = second .clears ∙ outcome-lent _ _ _ (λ e. broken (called-code second ∙ e))
+
+    third-code : callCode engine (progress-2 .job) map kernel (length output-2) (length scratch-2) ≡ code
+    third-code = sym (called-code third) ∙ last-code
+
+    output-refused : (code ≡ 0 → ⊥) → output-3 ≡ output-0
+    output-refused stopped =
+        third .writes ∙ outcome-lent _ _ _ (λ e. stopped (sym third-code ∙ e))
+        ∙ second-output
+        ∙ first .writes ∙ outcome-lent _ _ _ (λ e. stopped (sym first-code ∙ e))
+
+    scratch-refused : (code ≡ 0 → ⊥) → scratch-3 ≡ scratch-0
+    scratch-refused stopped =
+        third .clears ∙ outcome-lent _ _ _ (λ e. stopped (sym third-code ∙ e))
+        ∙ second-scratch
+        ∙ first .clears ∙ outcome-lent _ _ _ (λ e. stopped (sym first-code ∙ e))
+
+    output-accepted : code ≡ 0 → output-3 ≡ finished engine l map kernel 0 (engine .total l) output-0
+    output-accepted e =
+        let reaches = last-reaches (last-code ∙ e) in
+        let all : min (engine .total l) (acceptedBudgets (list .calls)) ≡ engine .total l = omega (arith, reaches .enough) in
+        calls-output list ∙ ap (λ (n : ℕ). finished engine l map kernel 0 n output-0) all
+
+    scratch-accepted : code ≡ 0 → scratch-3 ≡ cleared (engine .words l) scratch-0
+    scratch-accepted e =
+        let words = engine .words l in
+        third .clears
+        ∙ outcome-made _ _ (third-code ∙ e)
+        ∙ ap₂ (λ (j : Job) (ws : List ℕ). cleared (engine .words (j .layer)) ws) (calls-job first-two)
+        (second-scratch ∙ first .clears ∙ outcome-made _ _ (first-code ∙ e) ∙ ap (λ (j : Job). cleared (engine .words (j .layer)) scratch-0) starts)
+        ∙ cleared-again words scratch-0
+
+    leaves-output : output-3 ≡ outputLeft engine l map kernel output-0 (length scratch-0)
+    leaves-output = by-code code refl
+      where
+        by-code : (n : ℕ) → code ≡ n → output-3 ≡ outcome n (finished engine l map kernel 0 (engine .total l) output-0) output-0
+        by-code zero e = output-accepted e
+        by-code (suc n) e = output-refused (λ z. omega (arith, e, z))
+
+    leaves-scratch : scratch-3 ≡ scratchLeft engine l map kernel (length output-0) scratch-0
+    leaves-scratch = by-code code refl
+      where
+        by-code : (n : ℕ) → code ≡ n → scratch-3 ≡ outcome n (cleared (engine .words l) scratch-0) scratch-0
+        by-code zero e = scratch-accepted e
+        by-code (suc n) e = scratch-refused (λ z. omega (arith, e, z))
+
+    made : CallsMade engine l map kernel output-0 output-3 (eqb (progress-3 .code) 0)
+    made = record {
       list = list;
       starts = refl;
       ends = refl;
@@ -137,6 +199,13 @@ module _ {engine : Engine} (lawful : Lawful engine) (l : Layer) (budget : ℕ) (
           omega (arith, at-most-one (progress-1 .code), refused-counts-none (progress-2 .code) broken, at-most-one (progress-3 .code));
       enough = λ e. last-reaches (eqb-true (progress-3 .code) 0 e);
     }
+
+    -- all that is said of the three calls
+    pub three-calls : (eqb (progress-3 .code) 0 ≡ eqb code 0)
+        × ((output-3 ≡ outputLeft engine l map kernel output-0 (length scratch-0))
+        × ((scratch-3 ≡ scratchLeft engine l map kernel (length output-0) scratch-0)
+        × CallsMade engine l map kernel output-0 output-3 (eqb (progress-3 .code) 0)))
+    three-calls = (ap (λ (n : ℕ). eqb n 0) last-code, (leaves-output, (leaves-scratch, made)))
 
 -- two lists of calls that were made, of paired layers with one kernel
 pub lists-agree : {one other : Engine} → Lawful one → Lawful other

@@ -8,11 +8,12 @@ ghost use lib.Dec.{eqb};
 ghost use lib.ListN.{length};
 ghost use Rattle.checks.specs.Engine.{tileEngine};
 ghost use Rattle.checks.specs.Checks.{runCode};
+ghost use Rattle.engine.specs.Call.{outputLeft, scratchLeft};
 ghost use Rattle.product_sums.specs.ProductSums.{Paired, SumsAgree};
 ghost use Rattle.product_sums.specs.CallsMade.{CallsMade};
 
 // Three calls of a layer's job: one with the budget, one that is lent no map value and thus is refused, one with the total. Whether the last
-// one is accepted, which is whether a run is.
+// one is accepted, which is whether a run is; they leave what a run leaves.
 fn three_calls(
     layer: Layer,
     budget: usize,
@@ -22,6 +23,8 @@ fn three_calls(
     scratch: &mut [u64],
 ) -> bool
     ensures { λ r. ⌜ r ≡ eqb (runCode tileEngine layer (now (map .entry)) (now (kernel .entry)) (length (now (output .entry))) (length (now (scratch .entry)))) 0 ⌝ }
+    ensures { λ _. ⌜ now (output .exit) ≡ outputLeft tileEngine layer (now (map .entry)) (now (kernel .entry)) (now (output .entry)) (length (now (scratch .entry))) ⌝ }
+    ensures { λ _. ⌜ now (scratch .exit) ≡ scratchLeft tileEngine layer (now (map .entry)) (now (kernel .entry)) (length (now (output .entry))) (now (scratch .entry)) ⌝ }
     ensures { λ r. ⌜ CallsMade tileEngine layer (now (map .entry)) (now (kernel .entry)) (now (output .entry)) (now (output .exit)) r ⌝ }
 {
     let plan = planner::plan(layer);
@@ -34,7 +37,8 @@ fn three_calls(
     third.code == 0
 }
 
-// Both kinds, with one kernel. Whether both layers are accepted; then both lists reach their totals.
+// Both kinds, with one kernel: three calls of each. Whether both layers are accepted; then both lists reach their totals, and the two sums of
+// paired layers agree. The outputs are left as by a run of each layer, and scratch as by one run after the other.
 pub fn both_kinds(
     conv: Layer,
     tconv: Layer,
@@ -47,9 +51,13 @@ pub fn both_kinds(
     scratch: &mut [u64],
 ) -> bool
     ensures { λ r. ⌜ r ≡ eqb (runCode tileEngine conv (now (x .entry)) (now (kernel .entry)) (length (now (u .entry))) (length (now (scratch .entry)))) 0 && eqb (runCode tileEngine tconv (now (y .entry)) (now (kernel .entry)) (length (now (v .entry))) (length (now (scratch .entry)))) 0 ⌝ }
+    ensures { λ _. ⌜ now (u .exit) ≡ outputLeft tileEngine conv (now (x .entry)) (now (kernel .entry)) (now (u .entry)) (length (now (scratch .entry))) ⌝ }
+    ensures { λ _. ⌜ now (v .exit) ≡ outputLeft tileEngine tconv (now (y .entry)) (now (kernel .entry)) (now (v .entry)) (length (now (scratch .entry))) ⌝ }
+    ensures { λ _. ⌜ now (scratch .exit) ≡ scratchLeft tileEngine tconv (now (y .entry)) (now (kernel .entry)) (length (now (v .entry)))
+        (scratchLeft tileEngine conv (now (x .entry)) (now (kernel .entry)) (length (now (u .entry))) (now (scratch .entry))) ⌝ }
     ensures { λ r. ⌜ (Paired conv tconv → r ≡ true → SumsAgree conv (now (x .entry)) (now (y .entry)) (now (u .exit)) (now (v .exit))) ⌝ }
 {
     let forward = three_calls(conv, budget, x, kernel, u, scratch);
     let backward = three_calls(tconv, budget, y, kernel, v, scratch);
-    forward && backward
+    forward & backward
 }

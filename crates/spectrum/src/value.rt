@@ -1,4 +1,4 @@
-// Signed values as words, and back. A value becomes a word that represents it; a residue that comes back has offset of 2^bits added, its offset,
+// Signed values as words, and back. A value becomes a word that represents it; a residue that comes back has half of 2^bits added, its offset,
 // so that its signed reading is one subtraction. Neither needs a branch.
 use fermat::field;
 ghost use mathlib.Core.Path.{_≡_};
@@ -24,7 +24,7 @@ pub fn offset_of(field: usize) -> u64
     (field::modulus_of(field) - 1) / 2
 }
 
-// A word less offset.
+// A word less the offset.
 pub fn value_of(word: u64, offset: u64) -> i32
     requires { ⌜ (offset ≤ 2147483648) × Storable offset word ⌝ }
     ensures { λ r. ⌜ r ≡ lessOffset offset word ⌝ }

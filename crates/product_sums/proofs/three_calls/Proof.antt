@@ -1,12 +1,10 @@
 -- The three calls are a list of calls with a refused one: ThreeCalls says what it comes to.
-use mathlib.Core.Path.{refl, ap, _∙_}
-use Prim.Native.Nat.{ℕ}
+use mathlib.Core.Path.{refl, _∙_}
 use borrow.Author.Needs.{needs}
 use denote.Ref.{now}
-use lib.Dec.{eqb}
 use Rattle.checks.specs.EngineLaws.{tile-lawful}
 use Rattle.engine.specs.CallsLaws.{output-length, scratch-length}
-use Rattle.product_sums.proofs.ThreeCalls.{last-code, three-calls}
+use Rattle.product_sums.proofs.ThreeCalls.{three-calls}
 use Rattle.product_sums.proofs.three_calls.Statement.{statement}
 use Rattle.product_sums.proofs.three_calls.Tie as tie
 
@@ -57,13 +55,8 @@ returns c =
     let call = c .before .before .before .before in
     let made = first c .before .before .before in
     let g = made .before .before .before .args in
-    let last = rw (made .before .plan .ensures) at (call .advance3 .ensures) in (
-      ap (λ (code : ℕ). eqb code 0)
-          (last-code tile-lawful (g .layer) (g .budget) (now (g .map)) _ (now (g .kernel)) refl
-          (made .new .ensures) (first c .advance .ensures) (second c .advance2 .ensures) last),
-      three-calls tile-lawful (g .layer) (g .budget) (now (g .map)) _ (now (g .kernel)) refl
-          (made .new .ensures) (first c .advance .ensures) (second c .advance2 .ensures) last,
-    )
+    three-calls tile-lawful (g .layer) (g .budget) (now (g .map)) _ (now (g .kernel)) refl
+    (made .new .ensures) (first c .advance .ensures) (second c .advance2 .ensures) (rw (made .before .plan .ensures) at (call .advance3 .ensures))
 
 pub three-calls-spec : {M : Type 1} → statement M
 three-calls-spec =
