@@ -1,15 +1,50 @@
 /*
- * The C interface of Wemsteky, a proved filter engine: convolution and transposed convolution of whole-number maps, exactly.
+ * Wemsteky: convolution and transposed convolution of whole-number maps, computed exactly. The C interface of a proved library; what is proved
+ * and what is not is in docs/ASSURANCE.md.
  *
- * A layer is fourteen numbers: kind field C M H W K S P peak top left h w.
- *   kind 0 is convolution, 1 is transposed convolution; field is 4 or 5
- *   C map channels of H by W, row by row, channel after channel; M output channels
- *   kernel side K, stride S, padding P; the kernel is [outer][inner][a][b]
- *   peak bounds the size of every map value
- *   top left h w: the first row and column kept of the full output, and how many of each
+ * THE LAYER is fourteen numbers: kind field C M H W K S P peak top left h w.
  *
- * Every function accepts any numbers, lengths and values. It returns 0, or the number of the first check that fails; a refused call changes
- * no output, scratch, words, levels or joined kernel. wemsteky_noise has no checks and returns a seed.
+ *   kind          0 is convolution (CONV), 1 is transposed convolution (TCONV)
+ *   field         4 or 5; see THE FIELD
+ *   C M           channels of the map and of the output, 1 to 64 each
+ *   H W           rows and columns of each map channel, 1 to 512
+ *   K S P         side of the kernel, 1 to 11; stride, 1 to 4; padding, 0 to K - 1
+ *   peak          no map value is above it or below its negative, 1 to 32,767
+ *   top left h w  the crop: first row and column kept of the full output, and how many rows and columns
+ *
+ * BUFFERS are rows one after the other, planes one after the other.
+ *
+ *   map      C planes of H rows of W values:      map[(c * H + i) * W + j]
+ *   kernel   planes of K rows of K weights, in the order [outer][inner]:
+ *            CONV: outer is the output channel, inner the map channel:  kernel[((m * C + c) * K + a) * K + b]
+ *            TCONV: outer is the map channel, inner the output channel: kernel[((c * M + m) * K + a) * K + b]
+ *            so one kernel serves a CONV layer and the TCONV layer that leads back
+ *   output   M planes of h rows of w values:      output[(m * h + r) * w + s], the full output at row top + r, column left + s
+ *
+ * THE FULL OUTPUT has E rows and F columns.
+ *
+ *   CONV:   E = (H + 2P - K) / S rounded down, plus 1;  F the same with W
+ *   TCONV:  E = (H - 1) S + K - 2P;                     F the same with W
+ *
+ * To learn E and F, ask wemsteky_plan with top = left = 0 and h = w = 1.
+ *
+ * THE SUMS, where a map value outside the map is 0 and a weight outside its K by K square is 0; as the ONNX operators Conv and ConvTranspose:
+ *
+ *   CONV at (m, e, f):   sum over c, a, b of weight [m][c][a][b] times map [c][eS + a - P][fS + b - P]
+ *   TCONV at (m, i, j):  sum over c, e, f of map [c][e][f] times weight [c][m][i + P - eS][j + P - fS]
+ *
+ * THE FIELD fixes the size N of a tile, the words of scratch and the greatest sums: field 4 is the numbers below 65,537, with N 32; field 5 is
+ * those below 4,294,967,297, with N 64. Each output must read back from its remainder, so check 16 bounds the load of each output channel: the
+ * peak times the sum of the sizes of the weights that one output can meet, over all map channels. In CONV an output can meet all K by K weights.
+ * In TCONV with stride S it meets only weights whose rows leave the same remainder by S, and whose columns do; of these S by S groups the one with
+ * the greatest sum counts. The limit is 32,768 in field 4 and 2,147,483,647 in field 5. Where 16 comes up: use field 5, or smaller weights, or a
+ * lower peak where the map's values allow it. Where both fields accept a layer, field 4 needs a quarter of the scratch; docs/PERFORMANCE.md says
+ * which is quicker.
+ *
+ * TILES are counted by output channel, then tile row, then tile column; each covers N - K + 1 rows and columns of the stride-1 grid.
+ *
+ * ANSWERS. Every function takes any numbers, lengths and values. It returns 0, or the number of the first check that fails, in this order; a
+ * refused call changes no output, scratch, words, levels or joined kernel.
  *
  *   1 kind is not 0 or 1                  11 kernel length is not M C K K
  *   2 field is not 4 or 5                 12 output length is not M h w
@@ -20,20 +55,20 @@
  *   7 P above K - 1                       17 the index of the next tile above the total
  *   8 the full output has no row or no    18 not N words to transform
  *     column                              19 a word not below the field
- *   9 the crop is empty or reaches beyond the full output
- *  20 the shift outside 0 to 31, the bound outside 1 to 32,767, or not as many levels as outputs
- *  26 a layer to join not convolution with S 1 and P 0, its C, M or K outside the ranges above, a kernel length, that of the joined one too,
- *     not as the figures say, or the first layer's M not the second's C
+ *   9 the crop is empty or reaches        20 the shift outside 0 to 31, the bound outside 1 to 32,767, or not as many levels as outputs
+ *     beyond the full output
+ *  10 map length is not C H W
+ *  26 a layer to join not CONV with S 1 and P 0, its C, M or K outside the ranges above, a kernel length, that of the joined one too, not as the
+ *     figures say, or the first layer's M not the second's C
  *  27 the joined side above 11
  *  28 some joined weight not within 16 signed bits
  *
- * The load of an output channel (check 16) bounds the size of its outputs for every map within the peak. It is the peak times the sum of the
- * sizes of the weights that one output can meet, over all map channels. In convolution an output can meet all K by K weights. In transposed
- * convolution with stride S it meets only weights whose rows leave the same remainder by S, and whose columns do; of these S by S groups the
- * one with the greatest sum counts. The limit is 32,768 in field 4 and 2,147,483,647 in field 5. Where 16 comes up, use field 5, or smaller
- * weights, or a lower peak where the map's values allow it.
+ * WHAT THE CALLER KEEPS, which nothing checks: each pointer points to as many elements as its length says, also where that is 0, so no pointer is
+ * null; a buffer that a call writes (output, scratch, figures, words, levels, map of wemsteky_noise, joined) overlaps no other buffer of the call;
+ * nobody else writes a buffer of a call while it runs. size_t has 64 bits.
  *
- * A pointer of length 0 may not be null. Buffers may not overlap.
+ * The functions allocate nothing, have no globals and hold no locks: any number of calls may run at once on buffers of their own. A run or a job
+ * call used 2,480 bytes of stack when that was measured, the others less (tests/stack.c prints it).
  */
 #ifndef WEMSTEKY_H
 #define WEMSTEKY_H
@@ -41,39 +76,64 @@
 #include <stddef.h>
 #include <stdint.h>
 
+#define WEMSTEKY_VERSION 0x000100 /* major, minor and patch, a byte each */
+
+/* The words of scratch, 3 N N, in field 4 and in field 5. Scratch may be longer. */
+#define WEMSTEKY_SCRATCH_4 3072
+#define WEMSTEKY_SCRATCH_5 12288
+
+/* The words of a transform, N, in field 4 and in field 5. */
+#define WEMSTEKY_N_4 32
+#define WEMSTEKY_N_5 64
+
+/* The least peak that every map of wemsteky_noise keeps. */
+#define WEMSTEKY_NOISE_PEAK 128
+
+#if defined(__GNUC__) || defined(__clang__)
+#define WEMSTEKY_MUST_USE __attribute__((warn_unused_result))
+#else
+#define WEMSTEKY_MUST_USE
+#endif
+
 #ifdef __cplusplus
 extern "C" {
 #endif
 
-/* Checks 1 to 9. figures: rows and columns of the full output, all tiles, 3 N N words of scratch; zeros where the layer is refused. */
-size_t wemsteky_plan(const size_t layer[14], size_t figures[4]);
+/* Checks 1 to 9. figures: E, F, the total of tiles, 3 N N words of scratch; zeros where the layer is refused. */
+WEMSTEKY_MUST_USE size_t wemsteky_plan(const size_t layer[14], size_t figures[4]);
 
-/* Checks 1 to 16, then every tile. figures: tiles finished, index of the next tile, 1 where done; zeros where the call is refused. An
- * accepted call leaves the first 3 N N words of scratch zero. */
-size_t wemsteky_run(const size_t layer[14], const int16_t *map, size_t map_len, const int16_t *kernel, size_t kernel_len,
-                    int32_t *output, size_t output_len, uint64_t *scratch, size_t scratch_len, size_t figures[3]);
+/* Checks 1 to 16, then every tile: each output becomes its sum. figures: tiles finished, index of the next tile, 1 where done; zeros where the
+ * call is refused. An accepted call leaves the first 3 N N words of scratch zero and later ones as they were; what they held before is free. */
+WEMSTEKY_MUST_USE size_t wemsteky_run(const size_t layer[14], const int16_t *map, size_t map_len, const int16_t *kernel, size_t kernel_len,
+                                      int32_t *output, size_t output_len, uint64_t *scratch, size_t scratch_len, size_t figures[3]);
 
-/* Checks 1 to 17, then the lesser of the budget and the tiles left, from tile `next` on. figures: tiles finished, index of the next tile (as
- * given where the call is refused), 1 where no tile is left. */
-size_t wemsteky_job(const size_t layer[14], size_t next, size_t budget, const int16_t *map, size_t map_len, const int16_t *kernel,
-                    size_t kernel_len, int32_t *output, size_t output_len, uint64_t *scratch, size_t scratch_len, size_t figures[3]);
+/* Checks 1 to 17, then the lesser of the budget and the tiles left, from tile `next` on; a budget of 0 is accepted. Outputs of the tiles finished
+ * become their sums, all others stay. figures: tiles finished, index of the next tile (as given where the call is refused), 1 where no tile is
+ * left. Scratch as after wemsteky_run. */
+WEMSTEKY_MUST_USE size_t wemsteky_job(const size_t layer[14], size_t next, size_t budget, const int16_t *map, size_t map_len,
+                                      const int16_t *kernel, size_t kernel_len, int32_t *output, size_t output_len, uint64_t *scratch,
+                                      size_t scratch_len, size_t figures[3]);
 
-/* Checks 2, 18 and 19, then the transform of N residues at the root 2 (N is 32 in field 4, 64 in field 5), or its inverse. */
-size_t wemsteky_transform(size_t field, uint64_t *words, size_t words_len);
-size_t wemsteky_inverse(size_t field, uint64_t *words, size_t words_len);
+/* Checks 2, 18 and 19, then the transform of N residues at the root 2: entry k is the sum over n of words[n] times 2 to the power nk, modulo the
+ * field. The inverse undoes it. */
+WEMSTEKY_MUST_USE size_t wemsteky_transform(size_t field, uint64_t *words, size_t words_len);
+WEMSTEKY_MUST_USE size_t wemsteky_inverse(size_t field, uint64_t *words, size_t words_len);
 
 /* Check 20, then the level of each output: divided by 2 to the shift, to the nearest whole number, halves going away from zero, then clamped to
  * -bound and bound. */
-size_t wemsteky_levels(size_t shift, size_t bound, const int32_t *outputs, size_t outputs_len, int16_t *levels, size_t levels_len);
+WEMSTEKY_MUST_USE size_t wemsteky_levels(size_t shift, size_t bound, const int32_t *outputs, size_t outputs_len, int16_t *levels,
+                                         size_t levels_len);
 
 /* Fills the map in order, one draw for each value. A draw replaces the seed by 1,664,525 times itself plus 1,013,904,223, modulo 2 to the 32;
- * the value is the new seed divided by 16,777,216, rounded down, less 128. Returns the last seed, or the seed where the map is empty. */
-uint32_t wemsteky_noise(uint32_t seed, int16_t *map, size_t map_len);
+ * the value is the new seed divided by 16,777,216, rounded down, less 128: -128 to 127, so a layer over such a map needs a peak of 128 at least.
+ * Returns the last seed, or the seed where the map is empty; it has no checks. The generator keeps no secret: a few values of a map are enough to
+ * work out the seed and every value after them. */
+WEMSTEKY_MUST_USE uint32_t wemsteky_noise(uint32_t seed, int16_t *map, size_t map_len);
 
 /* Checks 26 to 28, then the kernel of one layer that does what the first and then the second do: side K1 + K2 - 1, the first's C, the second's M.
  * Its weight at a place is the sum, over the channels between the two and over the pairs of places that add up to it, of the products. */
-size_t wemsteky_join(const size_t first[14], const int16_t *first_kernel, size_t first_len, const size_t second[14],
-                     const int16_t *second_kernel, size_t second_len, int16_t *joined, size_t joined_len);
+WEMSTEKY_MUST_USE size_t wemsteky_join(const size_t first[14], const int16_t *first_kernel, size_t first_len, const size_t second[14],
+                                       const int16_t *second_kernel, size_t second_len, int16_t *joined, size_t joined_len);
 
 #ifdef __cplusplus
 }

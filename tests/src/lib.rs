@@ -6,6 +6,7 @@ pub mod bench_program;
 pub mod call;
 pub mod cases;
 pub mod checked;
+pub mod count;
 pub mod damage;
 pub mod direct;
 pub mod draw;

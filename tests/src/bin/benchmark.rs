@@ -1,14 +1,13 @@
 //! Times of the engine beside those of the direct sums, as a table: the shortest of several, and instructions for a tile
 //! where valgrind is found. Nothing is asserted of a time.
 
-use std::process::{Command, Output};
 use std::time::{Duration, Instant};
 use wemsteky_tests::call::{Buffers, Call};
 use wemsteky_tests::layer::{Layer, CONV, TCONV};
 use wemsteky_tests::quick::quick_sums;
 use wemsteky_tests::random::Random;
 use wemsteky_tests::transform::points;
-use wemsteky_tests::{draw, engine};
+use wemsteky_tests::{count, draw, engine};
 
 /// Rounds of each layer: so many at least, then more until a time has passed.
 const LEAST_ROUNDS: usize = 7;
@@ -84,20 +83,9 @@ fn shortest<const N: usize>(mut routines: [&mut dyn FnMut(); N]) -> [f64; N] {
     shortest
 }
 
-/// What valgrind says of this program with some calls, or nothing where there is no valgrind.
-fn counted(number: usize, budget: usize, calls: usize) -> Option<Output> {
-    let program = std::env::current_exe().expect("the program knows its own file");
-    let mut command = Command::new("valgrind");
-    command.args(["--tool=callgrind", "--callgrind-out-file=/dev/null"]).arg(program);
-    command.args([CALLS, &number.to_string(), &budget.to_string(), &calls.to_string()]).output().ok()
-}
-
-/// The number after the word Collected.
+/// Instructions of this program with some calls.
 fn instructions(number: usize, budget: usize, calls: usize) -> Option<f64> {
-    let said = counted(number, budget, calls)?;
-    let text = String::from_utf8_lossy(&said.stderr);
-    let (_, count) = text.split_once("Collected :")?;
-    count.split_whitespace().next()?.parse().ok()
+    count::instructions(&[CALLS.to_string(), number.to_string(), budget.to_string(), calls.to_string()])
 }
 
 /// Instructions for a tile: those of a call of some tiles less those of a call of none.

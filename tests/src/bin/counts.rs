@@ -1,0 +1,98 @@
+//! Instructions of `levels`, `noise` and `join`, as valgrind counts them: those of a program that makes two calls less those of one
+//! that makes one, and so many for each value or pair of weights. Nothing is asserted of a count.
+
+use wemsteky_tests::random::Random;
+use wemsteky_tests::{count, engine};
+
+/// Outputs and map values.
+const VALUES: usize = 1_000_000;
+
+/// The channels of a joined filter, in each place.
+const CHANNELS: usize = 16;
+
+/// A function with a figure: the shift of levels, or the side of the first of two filters whose joined side is given.
+#[derive(Clone, Copy)]
+enum Counted {
+    Levels { shift: usize },
+    Noise,
+    Join { first: usize, second: usize },
+}
+
+const COUNTED: [Counted; 7] = [
+    Counted::Levels { shift: 0 },
+    Counted::Levels { shift: 8 },
+    Counted::Levels { shift: 31 },
+    Counted::Noise,
+    Counted::Join { first: 5, second: 5 },
+    Counted::Join { first: 11, second: 1 },
+    Counted::Join { first: 6, second: 6 },
+];
+
+impl Counted {
+    fn name(self) -> String {
+        match self {
+            Self::Levels { shift } => format!("levels, shift {shift}"),
+            Self::Noise => "noise".to_string(),
+            Self::Join { first, second } => format!("join, sides {first} and {second}"),
+        }
+    }
+
+    /// Values, or pairs of weights that meet, each of which is multiplied twice.
+    fn items(self) -> usize {
+        match self {
+            Self::Levels { .. } | Self::Noise => VALUES,
+            Self::Join { first, second } => CHANNELS * CHANNELS * CHANNELS * (first * first) * (second * second),
+        }
+    }
+
+    fn call(self, calls: usize) {
+        match self {
+            Self::Levels { shift } => levels(shift, calls),
+            Self::Noise => noise(calls),
+            Self::Join { first, second } => join(first, second, calls),
+        }
+    }
+}
+
+fn levels(shift: usize, calls: usize) {
+    let mut random = Random::new("counts", shift);
+    let outputs: Vec<i32> = (0..VALUES).map(|_| random.word() as i32).collect();
+    let mut levels = vec![0; VALUES];
+    (0..calls).for_each(|_| assert_eq!(engine::levels(shift, 127, &outputs, &mut levels), 0));
+}
+
+fn noise(calls: usize) {
+    let mut map = vec![0; VALUES];
+    let seed = (0..calls).fold(1, |seed, _| engine::noise(seed, &mut map));
+    assert_ne!(seed, 1);
+}
+
+fn join(first: usize, second: usize, calls: usize) {
+    let filter = |side: usize| [0, 4, CHANNELS, CHANNELS, 16, 16, side, 1, 0, 1, 0, 0, 1, 1];
+    let weights = |side: usize| vec![1; CHANNELS * CHANNELS * side * side];
+    let (one, other) = (weights(first), weights(second));
+    let mut joined = weights(first + second - 1);
+    (0..calls)
+        .for_each(|_| assert_eq!(engine::join((&filter(first), &one), (&filter(second), &other), &mut joined), 0));
+}
+
+fn counted(number: usize) -> Option<f64> {
+    let once = |calls: usize| count::instructions(&[number.to_string(), calls.to_string()]);
+    Some(once(2)? - once(1)?)
+}
+
+fn main() {
+    let arguments: Vec<usize> = std::env::args().skip(1).filter_map(|word| word.parse().ok()).collect();
+    match arguments[..] {
+        [number, calls] => COUNTED[number].call(calls),
+        _ => (0..COUNTED.len()).for_each(|number| {
+            let (what, all) = (COUNTED[number], counted(number).unwrap_or(f64::NAN));
+            println!(
+                "{}: {all:.0} instructions, {:.1} for each of {}",
+                what.name(),
+                all / what.items() as f64,
+                what.items()
+            );
+        }),
+    }
+}
