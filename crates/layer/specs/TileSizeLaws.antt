@@ -8,7 +8,7 @@ use Rattle.fermat.specs.Field.{transformLength}
 use Rattle.layer.specs.PlannedLaws.{cond-le}
 use Rattle.layer.specs.Planned.{InRange, Planned, Wanted}
 use Rattle.layer.specs.declared.shape.Layer.{Layer}
-use Rattle.layer.specs.Shape.{isConv, tileSide, span}
+use Rattle.layer.specs.Shape.{isConv, tileSide, span, tileTotal}
 
 module _ (l : Layer) (r : InRange l) where
   pub length-low : 32 ≤ transformLength (l .field)
@@ -39,3 +39,9 @@ module _ (l : Layer) (count : ℕ) (w : Wanted l count) where
   pub across-high : ceilingDiv (span l count) (tileSide l) ≤ 8280
   unfolding ceilingDiv
   across-high = omega (arith, div-le-self (span l count + tileSide l - 1) (tileSide l), span-high, tile-side-high l (w .shape))
+
+-- the tiles of a layer are few
+pub total-high : (l : Layer) → Planned l → tileTotal l ≤ 64 * 8280 * 8280
+unfolding tileTotal
+total-high l plan =
+    mul-le-mul (mul-le-mul (plan .shape .outputs-high) (across-high _ _ (rows-wanted l plan))) (across-high _ _ (columns-wanted l plan))

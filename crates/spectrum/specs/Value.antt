@@ -8,7 +8,7 @@ pub record Word (m : ℕ) (z : ℤ) (w : ℕ) : Type 0 where
   pub value : Represents m z w
   pub bound : w ≤ 2 * m
 
--- the offset: offset of 2 ^ (2 ^ t), which is 32,768 in F_4 and 2,147,483,648 in F_5
+-- the offset: half of 2 ^ (2 ^ t), which is 32,768 in F_4 and 2,147,483,648 in F_5
 abbrev pub offsetOf : ℕ → ℕ
 offsetOf field = 2 ^ (2 ^ field) / 2
 

@@ -8,6 +8,7 @@ use Rattle.algebra.specs.Places.{Changed}
 use Rattle.algebra.specs.PlacesLaws.{changed-nothing, changed-again}
 use Rattle.layer.specs.Direct.{planeOf}
 use Rattle.layer.specs.Shape.{scratchWords, tileChannel}
+use Rattle.layer.specs.TileSizeLaws.{total-high}
 use Rattle.checks.specs.Engine.{tileEngine}
 use Rattle.tile.specs.Channel.{area, KernelReady, KernelKept}
 use Rattle.engine.proofs.PartsWritten.{PartsWritten, no-part, one-more-part, written-finished}
@@ -26,15 +27,25 @@ abbrev μ-loop : tie.MeasureT-loop
 loop-holds : tie.Need-loop-holds Inv-loop μ-loop
 loop-holds c = (omega arith, omega arith, no-part tileEngine _ _ _ _, changed-nothing, λ some. absurd (omega arith))
 
+-- the call that a turn belongs to; the turn in which a tile is finished
+abbrev start : tie.At-loop Inv-loop μ-loop → tie.Start Inv-loop μ-loop
+start c = c .before .before
+
+abbrev turn : tie.After-finish-tile-arg2 Inv-loop μ-loop → tie.At-loop Inv-loop μ-loop
+turn c = c .before .before .before .before
+
+abbrev finish : tie.After-slice-known2 Inv-loop μ-loop → tie.After-finish-tile Inv-loop μ-loop
+finish c = c .before .before .before
+
 keeps-kernel-requires : tie.Need-keeps-kernel-requires Inv-loop μ-loop
 keeps-kernel-requires c κs =
-    let s = c .before .before .before in
+    let s = start (c .before) in
     (s .pre .0 .plan, omega (arith, s .pre .1))
 
 finish-tile-requires : tie.Need-finish-tile-requires Inv-loop μ-loop
 finish-tile-requires c κs =
-    let loop = c .before .before .before .before .loop in
-    let s = c .before .before .before .before .before .before in
+    let loop = turn c .loop in
+    let s = start (turn c) in
     let l = s .args .layer in (
       (rw (sym (loop .inv .2 .same-length), sym (loop .inv .3 .same-length)) at (s .pre .0), omega (arith, s .pre .1)),
       λ kept.
@@ -46,17 +57,19 @@ finish-tile-requires c κs =
     )
 
 add-tile : tie.Need-add-tile Inv-loop μ-loop
-add-tile c = search needs
+add-tile c =
+    let s = start (turn (finish c .before)) in
+    omega (arith, total-high _ (s .pre .0 .plan), s .pre .1)
 
 loop-less : tie.Need-loop-less Inv-loop μ-loop
 loop-less c = search needs
 
 loop-again : tie.Need-loop-again Inv-loop μ-loop
 loop-again c =
-    let s = c .before .before .before .before .before .before .before .before .before .before in
-    let loop = c .before .before .before .before .before .before .before .before .loop in
-    let one = c .before .before .before .finish-tile .ensures in
-    let words = scratchWords (s .args .layer) in
+    let tile = finish c in
+    let loop = turn (tile .before) .loop in
+    let one = tile .finish-tile .ensures in
+    let words = scratchWords (start (turn (tile .before)) .args .layer) in
     let next : loop .tile + 1 - 1 ≡ loop .tile = omega arith in (
       omega arith,
       omega arith,
@@ -73,7 +86,7 @@ same-length-2 c = search needs
 
 returns : tie.Need-returns Inv-loop μ-loop
 returns c =
-    let s = c .before .before .before in
+    let s = start (c .before) in
     let loop = c .before .loop in
     let last : loop .tile ≡ s .args .to = omega arith in
     (written-finished tileEngine _ _ _ _ (s .args .to) (rw last at (loop .inv .2)), loop .inv .3)
