@@ -1,9 +1,10 @@
 // Between the forward and the inverse transform of a tile: products of words that are not reduced, added up; the sums brought down to a
 // small bound; and, after the inverse, residues. Each loop works word by word without a branch on a word.
 ghost use mathlib.Core.Path.{_≡_};
-ghost use Prim.Native.Nat.{ℕ, _+_, _-_, _*_, _%_, _<_, _≤_};
+ghost use Prim.Native.Nat.{ℕ, _+_, _-_, _*_, _/_, _%_, _^_, _<_, _≤_};
 ghost use lib.ListN.{length, getD};
 ghost use Rattle.spectrum.specs.Product.{factorMost, Product, Settled, Accumulated, Reducible, OffsetResidue, offsetResidue, inverseMost};
+use crate::value::offset_of;
 use fermat::field::bits_of;
 use fermat::field::halvings_of;
 
@@ -93,21 +94,21 @@ pub(crate) fn settle(words: &mut [u64], field: usize)
     }
 }
 
-// A word v that the inverse of a tile leaves, as a residue: v / N² and half of 2^bits, modulo 2^bits + 1. N² is 2^rest, and 1 / N² is
-// -2^(bits - rest). The half is added so that the signed reading takes it away again, without a branch.
-fn offset_residue(v: u64, bits: u32, rest: u32) -> u64
-    requires { ⌜ Reducible bits rest v ⌝ }
+// A word v that the inverse of a tile leaves, as a residue: v / N² and the offset, modulo 2^bits + 1. N² is 2^rest, and 1 / N² is
+// -2^(bits - rest). The offset is added so that the signed reading takes it away again, without a branch.
+fn offset_residue(v: u64, bits: u32, rest: u32, offset: u64) -> u64
+    requires { ⌜ Reducible bits rest v × (offset ≡ 2 ^ bits / 2) ⌝ }
     ensures { λ r. ⌜ OffsetResidue bits rest v r ⌝ }
 {
     let top = 1u64 << bits;
     let cut = 1u64 << rest;
-    let y = (v >> rest) + (top + 1 + top / 2) - ((v % cut) << (bits - rest));
+    let y = (v >> rest) + (top + 1 + offset) - ((v % cut) << (bits - rest));
     let q = y % top + (top + 1) - (y >> bits);
     let over = (q + (3 * top - 1)) >> (bits + 2);
     q - over * (top + 1)
 }
 
-// Each word that the inverse of a tile leaves as a residue, with half of 2^bits added.
+// Each word that the inverse of a tile leaves as a residue, with the offset added.
 pub(crate) fn offset_residues(words: &mut [u64], field: usize)
     requires { ⌜ (4 ≤ field) × (field ≤ 5) ⌝ }
     requires { ⌜ ((i : ℕ) → i < length (now words) → getD (now words) i 0 ≤ inverseMost field) ⌝ }
@@ -115,9 +116,10 @@ pub(crate) fn offset_residues(words: &mut [u64], field: usize)
 {
     let bits = bits_of(field);
     let rest = 2 * halvings_of(field);
+    let offset = offset_of(field);
     let mut i = 0;
     while i < words.len() {
-        words[i] = offset_residue(words[i], bits, rest);
+        words[i] = offset_residue(words[i], bits, rest, offset);
         i += 1;
     }
 }

@@ -22,7 +22,7 @@ module _ (c : tie.Start) where
   S = 2 ^ (c .args .bits - c .args .rest)
 
   top-is : (1 * 2 ^ c .args .bits) % 2 ^ 64 ≡ T
-  top-is = one-shl (c .args .bits) (c .pre .bits-high)
+  top-is = one-shl (c .args .bits) (c .pre .0 .bits-high)
 
   cut-is : (1 * 2 ^ c .args .rest) % 2 ^ 64 ≡ N
   cut-is = one-shl (c .args .rest) (omega arith)
@@ -31,25 +31,28 @@ module _ (c : tie.Start) where
   low-is = shl-exact (c .args .rest) (c .args .bits - c .args .rest) 64 (mod-lt (c .args .v) (pow-pos (c .args .rest))) (omega arith)
 
   whole : T ≡ N * S
-  whole = ap (λ (i : ℕ). 2 ^ i) (parts (c .args .bits) (c .args .rest) (c .pre .rest)) ∙ pow-add 2 (c .args .rest) (c .args .bits - c .args .rest)
+  whole = ap (λ (i : ℕ). 2 ^ i) (parts (c .args .bits) (c .args .rest) (c .pre .0 .rest)) ∙ pow-add 2 (c .args .rest) (c .args .bits - c .args .rest)
     where
       parts : (b r : ℕ) → r ≤ b → b ≡ r + (b - r)
       parts b r l = omega arith
 
+  offset-is : c .args .offset ≡ T / 2
+  offset-is = c .pre .1
+
   large : 16 ≤ T
-  large = pow-mono {i = 4} {j = c .args .bits} (c .pre .bits-low)
+  large = pow-mono {i = 4} {j = c .args .bits} (c .pre .0 .bits-low)
 
   small : T ≤ 4294967296
-  small = pow-mono {i = c .args .bits} {j = 32} (c .pre .bits-high)
+  small = pow-mono {i = c .args .bits} {j = 32} (c .pre .0 .bits-high)
 
   abbrev y : ℕ
   y = c .args .v / N + (T + 1 + T / 2) - c .args .v % N * S
 
   y-low : c .args .v % N * S ≤ c .args .v / N + (T + 1 + T / 2)
-  y-low = moved-low T N S (c .args .v) whole (pow-pos (c .args .rest)) (c .pre .bound)
+  y-low = moved-low T N S (c .args .v) whole (pow-pos (c .args .rest)) (c .pre .0 .bound)
 
   y-high : c .args .v / N + (T + 1 + T / 2) ≤ 6 * T + 6
-  y-high = moved-high T N S (c .args .v) whole (pow-pos (c .args .rest)) (c .pre .bound)
+  y-high = moved-high T N S (c .args .v) whole (pow-pos (c .args .rest)) (c .pre .0 .bound)
 
   y-most : y ≤ 6 * T + 6
   y-most = omega (arith, y-high)
@@ -82,10 +85,10 @@ add-y : tie.Need-add-y
 add-y c = rw (top-is c) (omega (arith, small c))
 
 add-y-2 : tie.Need-add-y-2
-add-y-2 c = rw (top-is c) (omega (arith, small c))
+add-y-2 c = rw (top-is c, offset-is c) (omega (arith, small c))
 
 add-y-3 : tie.Need-add-y-3
-add-y-3 c = rw (top-is c) (omega (arith, small c, y-high c))
+add-y-3 c = rw (top-is c, offset-is c) (omega (arith, small c, y-high c))
 
 rem-y : tie.Need-rem-y
 rem-y c = rw (cut-is c) (pow-pos (c .args .rest))
@@ -100,7 +103,7 @@ shl-y : tie.Need-shl-y
 shl-y c = search needs
 
 sub-y-2 : tie.Need-sub-y-2
-sub-y-2 c = simp (top-is c, cut-is c, low-is c) (y-low c)
+sub-y-2 c = simp (top-is c, offset-is c, cut-is c, low-is c) (y-low c)
 
 rem-q : tie.Need-rem-q
 rem-q c = rw (top-is c) (omega (arith, large c))
@@ -109,13 +112,13 @@ add-q : tie.Need-add-q
 add-q c = rw (top-is c) (omega (arith, small c))
 
 add-q-2 : tie.Need-add-q-2
-add-q-2 c = simp (top-is c, cut-is c, low-is c) (omega (arith, small c, mod-lt (y c) (pow-pos (c .args .bits))))
+add-q-2 c = simp (top-is c, offset-is c, cut-is c, low-is c) (omega (arith, small c, mod-lt (y c) (pow-pos (c .args .bits))))
 
 shr-q : tie.Need-shr-q
 shr-q c = search needs
 
 sub-q : tie.Need-sub-q
-sub-q c = simp (top-is c, cut-is c, low-is c) (q-low c)
+sub-q c = simp (top-is c, offset-is c, cut-is c, low-is c) (q-low c)
 
 mul-over : tie.Need-mul-over
 mul-over c = rw (top-is c) (omega (arith, small c))
@@ -124,7 +127,7 @@ sub-over : tie.Need-sub-over
 sub-over c = rw (top-is c) (omega (arith, large c))
 
 add-over : tie.Need-add-over
-add-over c = simp (top-is c, cut-is c, low-is c) (omega (arith, small c, q-high c))
+add-over c = simp (top-is c, offset-is c, cut-is c, low-is c) (omega (arith, small c, q-high c))
 
 add-over-2 : tie.Need-add-over-2
 add-over-2 c = omega arith
@@ -139,18 +142,18 @@ add-result : tie.Need-add-result
 add-result c = rw (top-is c) (omega (arith, small c))
 
 mul-result : tie.Need-mul-result
-mul-result c = simp (top-is c, cut-is c, low-is c, four c) (omega (arith, small c, q-high c, last c .fits))
+mul-result c = simp (top-is c, offset-is c, cut-is c, low-is c, four c) (omega (arith, small c, q-high c, last c .fits))
 
 sub-result : tie.Need-sub-result
-sub-result c = simp (top-is c, cut-is c, low-is c, four c) (last c .fits)
+sub-result c = simp (top-is c, offset-is c, cut-is c, low-is c, four c) (last c .fits)
 
 returns : tie.Need-returns
 returns c =
-    simp (top-is c, cut-is c, low-is c, four c)
+    simp (top-is c, offset-is c, cut-is c, low-is c, four c)
     (record {
       below = last c .below;
       value = c-add (last c .value ⨟ folded-value (T c) (y c) (large c) (y-most c)) c-refl
-          ⨟ moved-value (T c) (N c) (S c) (c .args .v) (whole c) (pow-pos (c .args .rest)) (c .pre .bound);
+          ⨟ moved-value (T c) (N c) (S c) (c .args .v) (whole c) (pow-pos (c .args .rest)) (c .pre .0 .bound);
     })
 
 pub offset-residue-spec : {M : Type 1} → statement M

@@ -11,10 +11,14 @@ use Rattle.spectrum.proofs.product.offset_residues.Statement.{statement
 use Rattle.spectrum.proofs.product.offset_residues.Tie as tie
 
 abbrev Inv-loop : tie.InvT-loop
-Inv-loop words₀ field bits rest i₀ words i = (i ≤ length words₀) × WordsDone (λ _ a b. b ≡ offsetResidue field a) i words₀ words
+Inv-loop words₀ field bits rest offset i₀ words i = (i ≤ length words₀) × WordsDone (λ _ a b. b ≡ offsetResidue field a) i words₀ words
 
 abbrev μ-loop : tie.MeasureT-loop
-μ-loop words₀ field bits rest i₀ words i = length words₀ - i
+μ-loop words₀ field bits rest offset i₀ words i = length words₀ - i
+
+-- the call that the loop is of
+abbrev start : tie.At-loop Inv-loop μ-loop → tie.Start Inv-loop μ-loop
+start c = c .before .before .before .before .before
 
 bits-of-requires : tie.Need-bits-of-requires Inv-loop μ-loop
 bits-of-requires c κs = search needs
@@ -24,6 +28,9 @@ halvings-of-requires c κs = search needs
 
 mul-rest : tie.Need-mul-rest Inv-loop μ-loop
 mul-rest c = search needs
+
+offset-of-requires : tie.Need-offset-of-requires Inv-loop μ-loop
+offset-of-requires c κs = search needs
 
 loop-holds : tie.Need-loop-holds Inv-loop μ-loop
 loop-holds c = (omega arith, words-none)
@@ -37,10 +44,12 @@ slice-read-offset-residue c = search needs
 offset-residue-requires : tie.Need-offset-residue-requires Inv-loop μ-loop
 offset-residue-requires c κs =
     let head = c .before .before in
-    let bits = head .before .before in
-    let s = bits .before .before in
-    rw (bits .bits-of .ensures, head .before .halvings-of .ensures, head .loop .inv .1 .left (head .loop .i) (omega arith))
-    (field-reducible (s .args .field) (s .pre .0 .0) (s .pre .0 .1) _ (s .pre .1 (head .loop .i) (omega arith)))
+    let halvings = head .before .before in
+    let s = start head in
+    rw (halvings .before .bits-of .ensures, halvings .halvings-of .ensures, head .loop .inv .1 .left (head .loop .i) (omega arith)) (
+      field-reducible (s .args .field) (s .pre .0 .0) (s .pre .0 .1) _ (s .pre .1 (head .loop .i) (omega arith)),
+      head .before .offset-of .ensures,
+    )
 
 mul-words : tie.Need-mul-words Inv-loop μ-loop
 mul-words c = search needs
@@ -57,9 +66,9 @@ loop-less c = search needs
 loop-again : tie.Need-loop-again Inv-loop μ-loop
 loop-again c =
     let head = c .before .before .before in
-    let bits = head .before .before in
-    let s = bits .before .before in
-    let made = rw (bits .bits-of .ensures, head .before .halvings-of .ensures) at (c .offset-residue .ensures) in
+    let halvings = head .before .before in
+    let s = start head in
+    let made = rw (halvings .before .bits-of .ensures, halvings .halvings-of .ensures) at (c .offset-residue .ensures) in
     (omega arith, words-next _ (omega arith) (head .loop .inv .1) (field-residue (s .args .field) (s .pre .0 .0) (s .pre .0 .1) _ _ made))
 
 same-length : tie.Need-same-length Inv-loop μ-loop
@@ -77,6 +86,7 @@ offset-residues-spec =
     bits-of-requires
     halvings-of-requires
     mul-rest
+    offset-of-requires
     loop-holds
     mul-offset-residue
     slice-read-offset-residue
