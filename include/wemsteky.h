@@ -67,8 +67,8 @@
  * null; a buffer that a call writes (output, scratch, figures, words, levels, map of wemsteky_noise, joined) overlaps no other buffer of the call;
  * nobody else writes a buffer of a call while it runs. size_t has 64 bits.
  *
- * The functions allocate nothing, have no globals and hold no locks: any number of calls may run at once on buffers of their own. A run or a job
- * call used 2,480 bytes of stack when that was measured, the others less (tests/stack.c prints it).
+ * The functions allocate nothing, have no globals and hold no locks: any number of calls may run at once on buffers of their own. Runs used 2,480
+ * bytes of stack when that was measured, a job call 2,240, the others less (tests/stack.c prints it).
  */
 #ifndef WEMSTEKY_H
 #define WEMSTEKY_H
