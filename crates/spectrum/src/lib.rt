@@ -1,12 +1,12 @@
 // The transforms of a tile by the number of its field: from loaded words, at most twice the modulus, to words that are multiplied, and back.
 ghost use mathlib.Core.Path.{_≡_};
-ghost use Prim.Native.Nat.{ℕ, _*_, _≤_, _<_};
-ghost use lib.ListN.{length, getD};
+ghost use Prim.Native.Nat.{_*_, _≤_};
+ghost use lib.ListN.{length};
 ghost use Rattle.fermat.specs.Field.{modulus, transformLength};
 ghost use Rattle.passes.specs.Butterfly.{AtMost};
 ghost use Rattle.passes.specs.Halving.{word};
 ghost use Rattle.spectrum.specs.Tile.{Spectrum, Recovered};
-ghost use Rattle.spectrum.specs.Corner.{corner, Cornered};
+ghost use Rattle.spectrum.specs.Corner.{cornerStart, corner, Cornered};
 ghost use Rattle.spectrum.specs.Product.{factorMost};
 use corner::forward_corner;
 use fermat::field::bits_of;
@@ -35,11 +35,11 @@ pub fn tile_spectrum(words: &mut [u64], field: usize)
     forward_tile(words, n, halvings, bits, 2 * modulus_of(field));
 }
 
-// The same for a corner; it is lent in the second half of the words, and its transform comes out in the first.
+// The same for a corner, which stands in the last words.
 pub fn corner_spectrum(words: &mut [u64], k: usize, field: usize)
     requires { ⌜ (field ≤ 5) × Cornered (transformLength field) k (2 * modulus field) (now words) ⌝ }
-    ensures { λ _. ⌜ Spectrum field (corner k (transformLength field * transformLength field) (now (words .entry))) 0 (now (words .exit)) ⌝ }
-    ensures { λ _. ⌜ ((i : ℕ) → i < transformLength field * transformLength field → getD (now (words .exit)) i 0 ≤ factorMost field) ⌝ }
+    ensures { λ _. ⌜ Spectrum field (corner k (cornerStart (transformLength field) k) (now (words .entry))) 0 (now (words .exit)) ⌝ }
+    ensures { λ _. ⌜ AtMost (factorMost field) (now (words .exit)) ⌝ }
 {
     let n = transform_length(field);
     let halvings = halvings_of(field);

@@ -38,11 +38,11 @@ use Rattle.tile.proofs.TileReads.{channel-represents}
 -- from place a₁ on k₁ words are lent and come back as ks, then from a₂ on k₂ words, which come back as ws; A is N²
 pub record Lending (A a₁ k₁ a₂ k₂ : ℕ) (xs ks ws : List ℕ) : Type 0 where
   pub kernel-at : a₁ ≡ A
-  pub kernel-count : k₁ ≡ 2 * A
+  pub kernel-count : k₁ ≡ A
   pub window-at : a₂ ≡ 2 * A
   pub window-count : k₂ ≡ A
   pub room : 3 * A ≤ length xs
-  pub kernel-length : length ks ≡ 2 * A
+  pub kernel-length : length ks ≡ A
   pub window-length : length ws ≡ A
 
 module _ {A a₁ k₁ a₂ k₂ : ℕ} {xs ks ws : List ℕ} (p : Lending A a₁ k₁ a₂ k₂ xs ks ws) where
@@ -76,7 +76,7 @@ module _ {A a₁ k₁ a₂ k₂ : ℕ} {xs ks ws : List ℕ} (p : Lending A a₁
       changed-again A (3 * A) (omega (arith, p .kernel-at)) (omega (arith, p .window-at))
       (omega (arith, p .kernel-at, p .kernel-count)) (omega (arith, p .window-at, p .window-count)) first second
 
-  -- the second part is the window's, and leaves the first N² words of the first part, the kernel's
+  -- the kernel's part and the window's are apart
   kernel-word : (i : ℕ) → i < A → getD both (A + i) 0 ≡ getD ks i 0
   kernel-word i h =
       let e : A + i ≡ a₁ + i = omega (arith, p .kernel-at) in

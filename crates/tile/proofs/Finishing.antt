@@ -1,15 +1,14 @@
 -- The sum over all map channels, back to residues: at the places of tile t each word reads as the direct sum.
 use mathlib.Core.Path.{_≡_, refl, sym, _∙_}
-use mathlib.Core.List.{List, _++_}
+use mathlib.Core.List.{List}
 use Prim.Native.Nat.{ℕ, _+_, _*_, _-_, _%_, _<_}
 use native.Mathlib.Nat.{zero-add}
 use native.Mathlib.Omega.{arith}
 use lib.IntN.{ℤ}
-use lib.ListN.{length, getD, List·getD-append}
+use lib.ListN.{getD}
 use Rattle.algebra.specs.Residue.{Represents}
 use Rattle.algebra.specs.Sum.{sumZ}
 use Rattle.fermat.specs.Field.{modulus, transformLength}
-use Rattle.passes.specs.OrderLaws.{place-lt}
 use Rattle.spectrum.specs.Value.{offsetOf, Storable}
 use Rattle.spectrum.specs.Tile.{Spectrum, Recovered}
 use Rattle.spectrum.specs.SpectrumLaws.{spectrum-kept}
@@ -34,10 +33,10 @@ pub record At (l : Layer) (t : ℕ) (o : Origin) : Type 0 where
   pub row : o .row ≡ firstRow l t
   pub column : o .column ≡ firstColumn l t
 
--- ys is scratch after the sum, rs what comes back of its first part, and zs scratch then
+-- ys is scratch after the sum, `part` its first part, and rs what comes back of it
 module _ (l : Layer) (map kernel : List ℤ) (output scratch t : ℕ) (callable : Callable tileEngine l map kernel output scratch) (o : Origin) (at : At l t o)
-    (xs ys part rs rest : List ℕ) (added : Added l map kernel o (l .inputs) xs ys)
-    (lent : (i : ℕ) → i < area l → getD part i 0 ≡ getD ys i 0) (recovered : Recovered (l .field) part rs) (size : length rs ≡ area l) where
+    (xs ys part rs : List ℕ) (added : Added l map kernel o (l .inputs) xs ys)
+    (lent : (i : ℕ) → i < area l → getD part i 0 ≡ getD ys i 0) (recovered : Recovered (l .field) part rs) where
   plan : Planned l
   plan = callable .plan
 
@@ -61,10 +60,8 @@ module _ (l : Layer) (map kernel : List ℤ) (output scratch t : ℕ) (callable 
     column = column-in-window l plan t p in-tile
 
     -- the word of place p
-    word-is : wordOf l t p (rs ++ rest) ≡ (added .sum i j + offsetOf (l .field)) % modulus (l .field)
-    word-is =
-        List·getD-append rs rest 0 (i * transformLength (l .field) + j) (omega (arith, size, place-lt i j row column))
-        ∙ recovered (added .sum) sums i j row column
+    word-is : wordOf l t p rs ≡ (added .sum i j + offsetOf (l .field)) % modulus (l .field)
+    word-is = recovered (added .sum) sums i j row column
 
     represents : Represents (modulus (l .field))
         (sumZ (l .inputs) (λ c. channelSum l map kernel (tileChannel l t) (firstRow l t) (firstColumn l t) c i j)) (added .sum i j)
@@ -74,5 +71,5 @@ module _ (l : Layer) (map kernel : List ℤ) (output scratch t : ℕ) (callable 
     reads = tile-reads l map kernel output scratch t callable p below held represents
 
     -- what is stored is the direct sum, and it fits 32 bits
-    pub finished : Storable (offsetOf (l .field)) (wordOf l t p (rs ++ rest)) × (storedAt l t (rs ++ rest) p ≡ directAt l map kernel p)
+    pub finished : Storable (offsetOf (l .field)) (wordOf l t p rs) × (storedAt l t rs p ≡ directAt l map kernel p)
     finished = rw word-is (reads .bound, reads .reads)

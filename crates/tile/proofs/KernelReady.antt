@@ -18,8 +18,9 @@ use Rattle.algebra.specs.Places.{Changed}
 use Rattle.algebra.specs.PlacesLaws.{getD-put-mid}
 use Rattle.algebra.specs.CongruenceLaws.{c-eq}
 use Rattle.fermat.specs.Field.{modulus, transformLength}
+use Rattle.passes.specs.Butterfly.{AtMost}
 use Rattle.spectrum.specs.Tile.{Spectrum}
-use Rattle.spectrum.specs.Corner.{corner, Cornered}
+use Rattle.spectrum.specs.Corner.{cornerStart, corner, Cornered}
 use Rattle.spectrum.specs.Product.{factorMost}
 use Rattle.spectrum.specs.SpectrumLaws.{spectrum-moved}
 use Rattle.layer.specs.Planned.{InRange}
@@ -28,12 +29,24 @@ use Rattle.layer.specs.TileSizeLaws.{length-low, length-high}
 use Rattle.window.specs.Loaded.{HoldsKernel}
 use Rattle.tile.specs.Channel.{area, KernelReady}
 
--- the numbers: n is N, `from` is N², and the part that is lent has s words
+-- K is at most half of N
+pub half-length : {l : Layer} {n : ℕ} → InRange l → n ≡ transformLength (l .field) → 2 * l .side ≤ n
+half-length {l} range side = omega (arith, length-low l range, range .side-high)
+
+-- the words of the kernel's part from the corner on are N rows of K
+pub last-words : {l : Layer} {n : ℕ} (xs : List ℕ) → InRange l → n ≡ transformLength (l .field) → length xs ≡ area l
+    → length xs - cornerStart n (l .side) ≡ n * l .side
+last-words {l} {n} xs range side whole =
+    let inside : n * l .side ≤ n * n = mul-le-mul-left n (omega (arith, half-length range side)) in
+    let size : length xs ≡ n * n = rw side whole in
+    omega arith
+
+-- the numbers: n is N, and the plane is loaded into the last s words of the kernel's part
 pub record Part (l : Layer) (n s : ℕ) (xs : List ℕ) : Type 0 where
   pub range : InRange l
   pub side : n ≡ transformLength (l .field)
   pub count : s ≡ n * l .side
-  pub whole : length xs ≡ 2 * area l
+  pub whole : length xs ≡ area l
 
 module _ {l : Layer} {n s : ℕ} {xs : List ℕ} (part : Part l n s xs) where
   pub area-high : n * n ≤ 4096
@@ -41,65 +54,71 @@ module _ {l : Layer} {n s : ℕ} {xs : List ℕ} (part : Part l n s xs) where
       let most : n ≤ 64 = omega (arith, part .side, length-high l (part .range)) in
       mul-le-mul most most
 
-  pub inside : n * l .side ≤ n * n
-  inside = mul-le-mul-left n (omega (arith, part .side, length-low l (part .range), part .range .side-high))
+  small : 2 * l .side ≤ n
+  small = half-length (part .range) (part .side)
 
-  whole-n : length xs ≡ 2 * (n * n)
+  pub inside : n * l .side ≤ n * n
+  inside = mul-le-mul-left n (omega (arith, small))
+
+  pub whole-n : length xs ≡ n * n
   whole-n = rw (part .side) (part .whole)
 
-  pub part-le : n * n + s ≤ length xs
+  -- where the plane is loaded
+  abbrev at : ℕ
+  at = cornerStart n (l .side)
+
+  part-le : at + s ≤ length xs
   part-le = omega (arith, inside, part .count, whole-n)
 
-  pub part-length : length (midOf (n * n) s xs) ≡ transformLength (l .field) * l .side
-  part-length =
-      length-take-le s (drop (n * n) xs) (omega (arith, length-drop (n * n) xs, part-le)) ∙ part .count ∙ ap (λ (i : ℕ). i * l .side) (part .side)
+  lent-length : length (midOf at s xs) ≡ s
+  lent-length = length-take-le s (drop at xs) (omega (arith, length-drop at xs, part-le))
 
-  module _ {kernel : List ℤ} {plane : ℕ} (ys : List ℕ) (kept : length ys ≡ length (midOf (n * n) s xs)) (holds : HoldsKernel l kernel plane ys) where
+  pub part-length : length (midOf at s xs) ≡ transformLength (l .field) * l .side
+  part-length = lent-length ∙ part .count ∙ ap (λ (i : ℕ). i * l .side) (part .side)
+
+  module _ {kernel : List ℤ} {plane : ℕ} (ys : List ℕ) (kept : length ys ≡ length (midOf at s xs)) (holds : HoldsKernel l kernel plane ys) where
     size : length ys ≡ s
-    size = kept ∙ length-take-le s (drop (n * n) xs) (omega (arith, length-drop (n * n) xs, part-le))
+    size = kept ∙ lent-length
 
     -- a loaded word, in the buffer
-    at-corner : (i : ℕ) → i < s → getD (putMid (n * n) s xs ys) (n * n + i) 0 ≡ getD ys i 0
-    at-corner = getD-put-mid 0 xs ys (n * n) s part-le size
+    at-corner : (i : ℕ) → i < s → getD (putMid at s xs ys) (at + i) 0 ≡ getD ys i 0
+    at-corner = getD-put-mid 0 xs ys at s part-le size
 
-    pub cornered : Cornered (transformLength (l .field)) (l .side) (2 * modulus (l .field)) (putMid (n * n) s xs ys)
-    cornered = subst (λ (N : ℕ). Cornered N (l .side) (2 * modulus (l .field)) (putMid (n * n) s xs ys)) (part .side) (record {
+    pub cornered : Cornered (transformLength (l .field)) (l .side) (2 * modulus (l .field)) (putMid at s xs ys)
+    cornered = subst (λ (N : ℕ). Cornered N (l .side) (2 * modulus (l .field)) (putMid at s xs ys)) (part .side) (record {
       some = part .range .side-low;
-      inside = omega (arith, part .side, length-low l (part .range), part .range .side-high);
-      whole = same-len-mid (n * n) s xs ys kept ∙ whole-n;
+      small = small;
+      whole = same-len-mid at s xs ys kept ∙ whole-n;
       bound = λ i h. rw (at-corner i (omega (arith, part .count))) (holds .bound i (omega (arith, size, part .count)));
       empty = λ i low high. at-corner i (omega (arith, part .count)) ∙ holds .empty i low;
     })
 
     -- the words of the corner
     abbrev words : ℕ → ℕ → ℕ
-    words = corner (l .side) (transformLength (l .field) * transformLength (l .field)) (putMid (n * n) s xs ys)
+    words = corner (l .side) (cornerStart (transformLength (l .field)) (l .side)) (putMid at s xs ys)
 
     value : (a b : ℕ) → a < l .side → b < l .side → words a b ≡ getD ys (a * l .side + b) 0
     value a b la lb =
         let here : a * l .side + b < l .side * l .side = digits-lt la lb in
-        let low : l .side * l .side ≤ n * l .side = inside-low in
+        let low : l .side * l .side ≤ n * l .side = mul-le-mul-right (l .side) (omega (arith, small)) in
         rw (lt-ltb a (l .side) la, lt-ltb b (l .side) lb, sym (part .side)) (at-corner (a * l .side + b) (omega (arith, part .count)))
-      where
-        inside-low : l .side * l .side ≤ n * l .side
-        inside-low = mul-le-mul-right (l .side) (omega (arith, part .side, length-low l (part .range), part .range .side-high))
 
     outside : (a b : ℕ) → (l .side ≤ a) ⊎ (l .side ≤ b) → words a b ≡ 0
     outside a b (inl h) = rw (le-ltb a (l .side) h)
     outside a b (inr h) = rw (le-ltb b (l .side) h) (none (ltb a (l .side)))
       where
-        none : (test : Bool) → cond (test && false) (getD (putMid (n * n) s xs ys) (transformLength (l .field) * transformLength (l .field) + (a * l .side + b)) 0) 0 ≡ 0
+        none : (test : Bool) → cond (test && false) (getD (putMid at s xs ys) (cornerStart (transformLength (l .field)) (l .side) + (a * l .side + b)) 0) 0 ≡ 0
         none true = refl
         none false = refl
 
-    pub kernel-ready : (zs : List ℕ) → Spectrum (l .field) words 0 zs → ((i : ℕ) → i < area l → getD zs i 0 ≤ factorMost (l .field))
+    pub kernel-ready : (zs : List ℕ) → length zs ≡ length (putMid at s xs ys) → Spectrum (l .field) words 0 zs → AtMost (factorMost (l .field)) zs
         → KernelReady l kernel plane 0 zs
-    kernel-ready zs spectrum bound = record {
+    kernel-ready zs same spectrum most = record {
       words = words;
       value = λ a b la lb. rw (value a b la lb) (holds .value a b la lb);
       empty = outside;
       spectrum = spectrum;
-      bound = λ i h. rw (zero-add i) (bound i h);
+      bound = λ i h. rw (zero-add i) (most i (omega (arith, same, cornered .whole)));
     }
 
 -- ---- it stays

@@ -16,22 +16,21 @@ ghost use Rattle.spectrum.specs.Product.{productMost};
 ghost use Rattle.layer.specs.Planned.{InRange};
 ghost use Rattle.tile.specs.Channel.{area, KernelReady, KernelKept, WindowReady, LentLengths, OriginInRange, Adds};
 
-// The transform of a plane of the kernel. The words are two parts: it comes out in the first, and the second is used on the way.
+// The transform of a plane of the kernel: the plane is loaded into the last words, and its transform takes the place of all.
 fn kernel_spectrum(words: &mut [u64], layer: Layer, kernel: &[i16], plane: usize)
-    requires { ⌜ InRange layer × (length (now words) ≡ 2 * area layer) ⌝ }
+    requires { ⌜ InRange layer × (length (now words) ≡ area layer) ⌝ }
     requires { ⌜ (length (now kernel) ≡ layer .outputs * layer .inputs * (layer .side * layer .side)) × (plane < layer .outputs * layer .inputs) ⌝ }
     ensures { λ _. ⌜ KernelReady layer (now (kernel .entry)) plane 0 (now (words .exit)) ⌝ }
 {
     let n = field::transform_length(layer.field);
-    let from = n * n;
-    let to = from + n * layer.side;
-    load_kernel(&mut words[from..to], layer, kernel, plane);
+    let from = n * n - n * layer.side;
+    load_kernel(&mut words[from..], layer, kernel, plane);
     corner_spectrum(words, layer.side, layer.field);
 }
 
-// The same, but where it is kept: then it stands in the first part already.
+// The same, but where it is kept: then it stands there already.
 fn ready_kernel(words: &mut [u64], layer: Layer, kernel: &[i16], plane: usize, kept: bool)
-    requires { ⌜ InRange layer × (length (now words) ≡ 2 * area layer) ⌝ }
+    requires { ⌜ InRange layer × (length (now words) ≡ area layer) ⌝ }
     requires { ⌜ (length (now kernel) ≡ layer .outputs * layer .inputs * (layer .side * layer .side)) × (plane < layer .outputs * layer .inputs) ⌝ }
     requires { ⌜ (kept ≡ true → KernelReady layer (now kernel) plane 0 (now words)) ⌝ }
     ensures { λ _. ⌜ KernelReady layer (now (kernel .entry)) plane 0 (now (words .exit)) ⌝ }
@@ -58,8 +57,8 @@ fn window_spectrum(
     tile_spectrum(words, layer.field);
 }
 
-// Map channel c is added to the sum, which is that of the channels before. The transform of its plane of the kernel is left in scratch; where
-// it is kept from an earlier tile, it is not made again.
+// Map channel c is added to the sum, which is that of the channels before. The kernel and the window are each lent a part of scratch alone.
+// The transform of the kernel's plane is left in its part; where it is kept from an earlier tile, it is not made again.
 pub(crate) fn add_channel(
     scratch: &mut [u64],
     layer: Layer,
@@ -81,7 +80,7 @@ pub(crate) fn add_channel(
     let end = 3 * area;
     let planes = planes_to(layer, origin.channel);
     let plane = planes.first + c * planes.step;
-    ready_kernel(&mut scratch[area..end], layer, kernel, plane, kept);
+    ready_kernel(&mut scratch[area..window], layer, kernel, plane, kept);
     window_spectrum(
         &mut scratch[window..end],
         layer,

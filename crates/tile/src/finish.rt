@@ -64,6 +64,7 @@ pub fn finish_tile(
     let origin = origin_of(layer, tile);
     clear(scratch, 0, area);
     add_channels(scratch, layer, origin, map, kernel, kept);
-    recover_tile(&mut scratch[0..area], layer.field);
-    store_tile(output, scratch, layer, tile);
+    let sum = &mut scratch[..area];
+    recover_tile(sum, layer.field);
+    store_tile(output, sum, layer, tile);
 }

@@ -5,41 +5,43 @@ use Prim.Native.Nat.{ℕ, _+_, _-_, _*_, _^_, _≤_}
 use native.Mathlib.Omega.{arith}
 use borrow.Rule.Slice.PartMut.{same-len-mid}
 use denote.Ref.{now}
-use lib.ListN.{length, drop}
+use lib.ListN.{length}
+use Rattle.spectrum.specs.Corner.{cornerStart}
+use Rattle.spectrum.proofs.Widening.{corner-inside}
 use Rattle.spectrum.proofs.Tiles.{transforms}
-use Rattle.spectrum.proofs.Corners.{Wide, corner-le, corner-grid, corner-most, corner-filled, wide-length, wide-filled, wide-most, corner-forward, front-most, front-forward}
+use Rattle.spectrum.proofs.Corners.{Wide, corner-le, corner-grid, corner-most, corner-filled, wide-length, wide-filled, wide-most, corner-forward}
 use borrow.Author.Needs.{needs}
 use Rattle.spectrum.proofs.corner.forward_corner.Statement.{statement}
 use Rattle.spectrum.proofs.corner.forward_corner.Tie as tie
 
 -- how many words are lent first
-lent : (s : tie.Start) → let a = s .args in a .n * a .n + a .n * a .k - a .n * a .n ≡ a .n * a .k
-lent s = omega arith
+lent : (s : tie.Start) → let a = s .args in length (now (a .words)) - cornerStart (a .n) (a .k) ≡ a .n * a .k
+lent s = omega (arith, s .pre .1 .1 .whole, corner-inside (s .args .n) (s .args .k) (s .pre .1 .1 .small))
 
--- they lie in the second half
-inside : (s : tie.Start) → let a = s .args in a .n * a .n + (a .n * a .n + a .n * a .k - a .n * a .n) ≤ length (now (a .words))
-inside s = corner-le (s .pre .1 .1) (lent s)
+-- they are within the words
+inside : (s : tie.Start) → let a = s .args in a .n * a .k ≤ a .n * a .n
+inside s = corner-inside (s .args .n) (s .args .k) (s .pre .1 .1 .small)
 
-mul-area : tie.Need-mul-area
-mul-area c = search needs
+mul-from : tie.Need-mul-from
+mul-from c = omega (arith, c .before .pre .1 .1 .whole)
+
+mul-from-2 : tie.Need-mul-from-2
+mul-from-2 c = omega (arith, c .before .pre .1 .1 .whole, inside (c .before))
+
+sub-from : tie.Need-sub-from
+sub-from c = inside (c .before)
 
 mul-forward : tie.Need-mul-forward
-mul-forward c = omega (arith, inside (c .before))
-
-add-forward : tie.Need-add-forward
-add-forward c = omega (arith, inside (c .before))
-
-mul-forward-2 : tie.Need-mul-forward-2
-mul-forward-2 c = search needs
+mul-forward c = omega (arith, c .before .pre .1 .1 .whole)
 
 sub-forward : tie.Need-sub-forward
-sub-forward c = search needs
+sub-forward c = omega (arith, c .before .pre .1 .1 .whole)
 
 part-forward-start : tie.Need-part-forward-start
-part-forward-start c = search needs
+part-forward-start c = omega (arith, c .before .pre .1 .1 .whole)
 
 part-forward-end : tie.Need-part-forward-end
-part-forward-end c = omega (arith, inside (c .before))
+part-forward-end c = search needs
 
 forward-requires : tie.Need-forward-requires
 forward-requires c κs =
@@ -48,7 +50,7 @@ forward-requires c κs =
     let corner = s .pre .1 .1 in
     (s .pre .0, (corner-grid corner (lent s) (p .first), (corner-most corner (lent s), corner-filled corner (lent s))))
 
--- before the second transform: the words of the first one, and those of both halves
+-- before the second transform: the words of the first one, and those that are made of them
 module _ (c : tie.After-forward-arg2) where
   abbrev widened : tie.After-widen
   widened = c .before .before .before
@@ -65,21 +67,21 @@ module _ (c : tie.After-forward-arg2) where
   abbrev ts : List ℕ
   ts = widened .widen .last .0
 
-  wide : let a = start .args in Wide (a .n) (a .k) (a .n * a .n + a .n * a .k - a .n * a .n) (now (a .words)) ys ts
+  wide : let a = start .args in Wide (a .n) (a .k) (length (now (a .words)) - cornerStart (a .n) (a .k)) (now (a .words)) ys ts
   wide =
       let a = start .args in
       let kept = first .forward .kept .0 in
-      let whole = same-len-mid (a .n * a .n) (a .n * a .n + a .n * a .k - a .n * a .n) (now (a .words)) ys kept in
+      let from = cornerStart (a .n) (a .k) in
+      let whole = same-len-mid from (length (now (a .words)) - from) (now (a .words)) ys kept in
       record { kept = kept; whole = widened .widen .kept .0 ∙ whole; widened = widened .widen .ensures }
 
 widen-requires : tie.Need-widen-requires
-widen-requires c κs = search needs
-
-slice-relend-prefix-forward : tie.Need-slice-relend-prefix-forward
-slice-relend-prefix-forward c = search needs
-
-slice-aggregate-forward : tie.Need-slice-aggregate-forward
-slice-aggregate-forward c = sym (wide-length (start c .pre .1 .1) (lent (start c)) (wide c))
+widen-requires c κs =
+    let first = c .before .before .before in
+    let s = first .before .before .before in
+    let a = s .args in
+    let from = cornerStart (a .n) (a .k) in
+    (same-len-mid from (length (now (a .words)) - from) (now (a .words)) (first .forward .last .0) (first .forward .kept .0) ∙ s .pre .1 .1 .whole, s .pre .1 .1 .small)
 
 shl-forward : tie.Need-shl-forward
 shl-forward c = search needs
@@ -101,33 +103,25 @@ returns c =
     let second = last .before in
     let s = start second in
     let a = s .args in
-    let zs = last .forward2 .last .0 in
-    let rest = drop (a .n * a .n) (ts second) in
-    let side = s .pre .1 .0 .side in
-    let p = transforms (s .pre .0) (s .pre .1 .0) in
-    let size = last .forward2 .kept .0 ∙ wide-length (s .pre .1 .1) (lent s) (wide second) in
-    let tile =
-    corner-forward (s .pre .1 .1) (lent s) (wide second) (2 ^ a .bits + 1) 2 (a .halvings) zs side
-    (rw (p .count) at (first second .forward .ensures .0)) (rw (p .count) at (last .forward2 .ensures .0)) in (
-      front-forward (a .n) zs rest size side tile,
-      front-most (a .n) zs rest size (a .bound * 2 ^ a .halvings * 2 ^ a .halvings) (rw (p .count, p .shl) at (last .forward2 .ensures .1)),
+    let p = transforms (s .pre .0) (s .pre .1 .0) in (
+      corner-forward (s .pre .1 .1) (lent s) (wide second) (2 ^ a .bits + 1) 2 (a .halvings) (last .forward2 .last .0) (s .pre .1 .0 .side)
+          (rw (p .count) at (first second .forward .ensures .0)) (rw (p .count) at (last .forward2 .ensures .0)),
+      rw (p .count, p .shl) at (last .forward2 .ensures .1),
     )
 
 pub forward-corner-spec : {M : Type 1} → statement M
 forward-corner-spec =
     tie.close
     (tie.spec
-    mul-area
+    mul-from
+    mul-from-2
+    sub-from
     mul-forward
-    add-forward
-    mul-forward-2
     sub-forward
     part-forward-start
     part-forward-end
     forward-requires
     widen-requires
-    slice-relend-prefix-forward
-    slice-aggregate-forward
     shl-forward
     forward-requires-2
     same-length

@@ -17,9 +17,9 @@ Inv-loop words₀ n k r₀ words r = (r ≤ k) × Written 0 (Run 0 (r * n)) (tra
 abbrev μ-loop : tie.MeasureT-loop
 μ-loop words₀ n k r₀ words r = k - r
 
--- the rows that were taken lie in the first half
+-- the rows that were taken lie inside
 inside : (c : tie.At-loop Inv-loop μ-loop) → let a = c .before .before .args in a .k * a .n ≤ a .n * a .n
-inside c = mul-le-mul-right (c .before .before .args .n) (c .before .before .pre .1)
+inside c = mul-le-mul-right (c .before .before .args .n) (omega (arith, c .before .before .pre .1))
 
 loop-holds : tie.Need-loop-holds Inv-loop μ-loop
 loop-holds c = (omega arith, written-nothing (λ p h. omega arith))
@@ -36,7 +36,7 @@ loop-less c = search needs
 loop-again : tie.Need-loop-again Inv-loop μ-loop
 loop-again c =
     let head = c .before .before .before .before .before in
-    (omega arith, widen-next _ _ _ (omega arith) (head .loop .inv .1) (c .before .before .widen-row .ensures))
+    (omega arith, widen-next _ _ _ (head .before .before .pre .1) (omega arith) (head .loop .inv .1) (c .before .before .widen-row .ensures))
 
 mul-clear : tie.Need-mul-clear Inv-loop μ-loop
 mul-clear c = omega (arith, inside (c .before .before))
@@ -45,7 +45,7 @@ mul-clear-2 : tie.Need-mul-clear-2 Inv-loop μ-loop
 mul-clear-2 c = search needs
 
 clear-requires : tie.Need-clear-requires Inv-loop μ-loop
-clear-requires c κs = (inside (c .before .before), omega (arith, c .before .before .loop .inv .1 .same-length))
+clear-requires c κs = (omega (arith, inside (c .before .before)), omega (arith, c .before .before .loop .inv .1 .same-length))
 
 same-length : tie.Need-same-length Inv-loop μ-loop
 same-length c = search needs
@@ -56,7 +56,7 @@ returns c =
     let head = called .before .before .before in
     let s = head .before .before in
     let last : head .loop .r ≡ s .args .k = omega arith in
-    widened (s .args .n) (s .args .k) (s .pre .1) (s .pre .0) (rw last at (head .loop .inv .1)) (called .clear .ensures)
+    widened (s .args .n) (s .args .k) (omega (arith, s .pre .1)) (s .pre .0) (rw last at (head .loop .inv .1)) (called .clear .ensures)
 
 pub widen-spec : {M : Type 1} → statement M
 widen-spec =

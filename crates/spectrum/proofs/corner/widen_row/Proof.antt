@@ -6,28 +6,28 @@ use native.Mathlib.Omega.{arith}
 use Rattle.algebra.specs.Places.{Written, Run}
 use Rattle.algebra.specs.PlacesLaws.{written-nothing}
 use Rattle.passes.specs.OrderLaws.{place-lt}
-use Rattle.spectrum.specs.Corner.{transposedWord}
-use Rattle.spectrum.proofs.Widening.{narrow-le, widen-step}
+use Rattle.spectrum.specs.Corner.{cornerStart, transposedWord}
+use Rattle.spectrum.proofs.Widening.{corner-inside, narrow-le, widen-step}
 use borrow.Author.Needs.{needs}
 use Rattle.spectrum.proofs.corner.widen_row.Statement.{statement}
 use Rattle.spectrum.proofs.corner.widen_row.Tie as tie
 
 abbrev Inv-loop : tie.InvT-loop
 Inv-loop words₀ n k r first from₀ c₀ words from c =
-    (c ≤ n) × (from ≡ n * n + (c * k + r)) × Written 0 (Run (r * n) c) (transposedWord n k words₀) words₀ words
+    (c ≤ n) × (from ≡ cornerStart n k + (c * k + r)) × Written 0 (Run (r * n) c) (transposedWord n k words₀) words₀ words
 
 abbrev μ-loop : tie.MeasureT-loop
 μ-loop words₀ n k r first from₀ c₀ words from c = n - c
 
--- in a turn, the place that is written lies in the first half, the one that is read in the second
+-- in a turn, the row that is read and the place that is written lie inside
 inside : (c : tie.In-loop Inv-loop μ-loop) →
     let a = c .before .before .args in
     let j = c .before .loop .c in
-    (a .r * a .n + j < a .n * a .n) × (j * a .k + a .k ≤ a .n * a .n)
+    (a .r * a .n + j < a .n * a .n) × (cornerStart (a .n) (a .k) + (j * a .k + a .k) ≤ a .n * a .n)
 inside c =
     let s = c .before .before in
     let taken = c .loop-test .taken in
-    (place-lt (s .args .r) (c .before .loop .c) (omega arith) taken, narrow-le (c .before .loop .c) (s .pre .1) taken)
+    (place-lt (s .args .r) (c .before .loop .c) (omega arith) taken, narrow-le (s .args .n) (s .args .k) (c .before .loop .c) (s .pre .1) taken)
 
 mul-first : tie.Need-mul-first Inv-loop μ-loop
 mul-first c = let le : c .args .r * c .args .n ≤ c .args .n * c .args .n = mul-le-mul-right (c .args .n) (omega arith) in omega arith
@@ -35,8 +35,14 @@ mul-first c = let le : c .args .r * c .args .n ≤ c .args .n * c .args .n = mul
 mul-from : tie.Need-mul-from Inv-loop μ-loop
 mul-from c = search needs
 
+mul-from-2 : tie.Need-mul-from-2 Inv-loop μ-loop
+mul-from-2 c = omega (arith, corner-inside (c .args .n) (c .args .k) (c .pre .1))
+
+sub-from : tie.Need-sub-from Inv-loop μ-loop
+sub-from c = omega (arith, corner-inside (c .args .n) (c .args .k) (c .pre .1))
+
 add-from : tie.Need-add-from Inv-loop μ-loop
-add-from c = omega (arith, narrow-le {n = c .args .n} {k = c .args .k} 0 (c .pre .1) (omega arith))
+add-from c = omega (arith, narrow-le (c .args .n) (c .args .k) 0 (c .pre .1) (omega arith))
 
 loop-holds : tie.Need-loop-holds Inv-loop μ-loop
 loop-holds c = (omega arith, omega arith, written-nothing (λ p h. omega arith))
@@ -71,7 +77,7 @@ loop-again c =
     let s = turn .before .before in
     let loop = turn .before .loop in
     let a = s .args in
-    let row = widen-step (a .n) (a .k) (a .r) (loop .c) (s .pre .0) (omega arith) (turn .loop-test .taken) (loop .inv .1) (loop .inv .2) in
+    let row = widen-step (a .n) (a .k) (a .r) (loop .c) (s .pre .0) (s .pre .1) (s .pre .2) (turn .loop-test .taken) (loop .inv .1) (loop .inv .2) in
     (omega arith, omega arith, row)
 
 same-length : tie.Need-same-length Inv-loop μ-loop
@@ -90,6 +96,8 @@ widen-row-spec =
     μ-loop
     mul-first
     mul-from
+    mul-from-2
+    sub-from
     add-from
     loop-holds
     mul-words

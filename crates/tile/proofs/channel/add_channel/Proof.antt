@@ -100,9 +100,9 @@ part-length : (a k : ℕ) (xs : List ℕ) → a + k ≤ length xs → length (mi
 part-length a k xs le = length-take-le k (drop a xs) (omega (arith, length-drop a xs))
 
 kernel-part : (c : tie.After-transform-length)
-    → length (midOf (n c * n c) (3 * (n c * n c) - n c * n c) (now (start c .args .scratch))) ≡ 2 * area (start c .args .layer)
+    → length (midOf (n c * n c) (2 * (n c * n c) - n c * n c) (now (start c .args .scratch))) ≡ area (start c .args .layer)
 kernel-part c =
-    part-length (n c * n c) (3 * (n c * n c) - n c * n c) (now (start c .args .scratch)) (omega (arith, room c)) ∙ omega (arith, area-is c)
+    part-length (n c * n c) (2 * (n c * n c) - n c * n c) (now (start c .args .scratch)) (omega (arith, room c)) ∙ omega (arith, area-is c)
 
 ready-kernel-requires : tie.Need-ready-kernel-requires
 ready-kernel-requires c κs =
@@ -114,7 +114,7 @@ ready-kernel-requires c κs =
       (
         (lent .kernel-length, plane-lt planes),
         λ kept.
-            rw (plane-is planes) (kernel-lent (s .pre .1 .1 kept) (n p * n p) (3 * (n p * n p) - n p * n p) (area-is p) (omega (arith, area-is p))),
+            rw (plane-is planes) (kernel-lent (s .pre .1 .1 kept) (n p * n p) (2 * (n p * n p) - n p * n p) (area-is p) (omega (arith, area-is p))),
       ),
     )
 
@@ -126,17 +126,17 @@ module _ (c : tie.After-ready-kernel) where
   abbrev ks : List ℕ
   ks = c .ready-kernel .last .0
 
-  kernel-length : length ks ≡ 2 * area (start sizes .args .layer)
+  kernel-length : length ks ≡ area (start sizes .args .layer)
   kernel-length = c .ready-kernel .kept .0 ∙ kernel-part sizes
 
   abbrev part : ℕ
   part = n sizes * n sizes
 
-  scratch-room : 3 * part ≤ length (putMid part (3 * part - part) (now (start sizes .args .scratch)) ks)
+  scratch-room : 3 * part ≤ length (putMid part (2 * part - part) (now (start sizes .args .scratch)) ks)
   scratch-room =
-      omega (arith, room sizes, same-len-mid part (3 * part - part) (now (start sizes .args .scratch)) ks (c .ready-kernel .kept .0))
+      omega (arith, room sizes, same-len-mid part (2 * part - part) (now (start sizes .args .scratch)) ks (c .ready-kernel .kept .0))
 
-  window-part : length (midOf (2 * part) (3 * part - 2 * part) (putMid part (3 * part - part) (now (start sizes .args .scratch)) ks))
+  window-part : length (midOf (2 * part) (3 * part - 2 * part) (putMid part (2 * part - part) (now (start sizes .args .scratch)) ks))
       ≡ area (start sizes .args .layer)
   window-part = part-length (2 * part) (3 * part - 2 * part) _ (omega (arith, scratch-room)) ∙ omega (arith, area-is sizes)
 
@@ -170,7 +170,7 @@ module _ (c : tie.After-window-spectrum) where
   ws = c .window-spectrum .last .0
 
   lending : let a = n (sizes first) * n (sizes first) in
-      Lending (area (given .args .layer)) a (3 * a - a) (2 * a) (3 * a - 2 * a) (now (given .args .scratch)) (ks first) ws
+      Lending (area (given .args .layer)) a (2 * a - a) (2 * a) (3 * a - 2 * a) (now (given .args .scratch)) (ks first) ws
   lending =
       let is = area-is (sizes first) in
       record {
@@ -186,7 +186,7 @@ module _ (c : tie.After-window-spectrum) where
   both : let g = given .args in
       let a = n (sizes first) * n (sizes first) in
       Transformed (g .layer) (now (g .map)) (now (g .kernel)) (g .origin) (g .c) (now (g .scratch))
-      (putMid (2 * a) (3 * a - 2 * a) (putMid a (3 * a - a) (now (g .scratch)) (ks first)) ws)
+      (putMid (2 * a) (3 * a - 2 * a) (putMid a (2 * a - a) (now (g .scratch)) (ks first)) ws)
   both =
       let g = given .args in
       transformed (g .layer) (now (g .map)) (now (g .kernel)) (g .origin) lending

@@ -1,24 +1,26 @@
 -- The plane is loaded into the corner, which is lent, and transformed. KernelReady has what each step asks and leaves.
-use Prim.Native.Nat.{_+_, _*_, _-_}
+use Prim.Native.Nat.{_*_, _-_}
 use native.Mathlib.Omega.{arith}
 use borrow.Author.Needs.{needs}
 use denote.Ref.{now}
-use Rattle.tile.proofs.KernelReady.{Part, area-high, inside, part-le, part-length, cornered, kernel-ready}
+use lib.ListN.{length}
+use Rattle.spectrum.specs.Corner.{cornerStart}
+use Rattle.tile.proofs.KernelReady.{Part, last-words, area-high, inside, whole-n, part-length, cornered, kernel-ready}
 use Rattle.tile.proofs.channel.kernel_spectrum.Statement.{statement}
 use Rattle.tile.proofs.channel.kernel_spectrum.Tie as tie
 
--- the part that is lent
+-- the part whose last words are lent
 module _ (c : tie.After-transform-length) where
   abbrev start : tie.Start
   start = c .before .before
 
   part : let n = c .transform-length .result in
-      let k = start .args .layer .side in
-      Part (start .args .layer) n (n * n + n * k - n * n) (now (start .args .words))
+      let xs = now (start .args .words) in
+      Part (start .args .layer) n (length xs - cornerStart n (start .args .layer .side)) xs
   part = record {
     range = start .pre .0 .0;
     side = c .transform-length .ensures;
-    count = omega arith;
+    count = last-words (now (start .args .words)) (start .pre .0 .0) (c .transform-length .ensures) (start .pre .0 .1);
     whole = start .pre .0 .1;
   }
 
@@ -28,23 +30,23 @@ transform-length-requires c κs = search needs
 mul-from : tie.Need-mul-from
 mul-from c = omega (arith, area-high (part c))
 
-mul-to : tie.Need-mul-to
-mul-to c = omega (arith, area-high (part (c .before)), inside (part (c .before)))
+mul-from-2 : tie.Need-mul-from-2
+mul-from-2 c = omega (arith, area-high (part (c .before)), inside (part (c .before)))
 
-add-to : tie.Need-add-to
-add-to c = omega (arith, area-high (part (c .before)), inside (part (c .before)))
+sub-from : tie.Need-sub-from
+sub-from c = inside (part (c .before))
 
 mul-load-kernel : tie.Need-mul-load-kernel
 mul-load-kernel c = omega (arith, area-high (part (c .before)))
 
 sub-load-kernel : tie.Need-sub-load-kernel
-sub-load-kernel c = search needs
+sub-load-kernel c = omega (arith, whole-n (part (c .before)))
 
 part-load-kernel-start : tie.Need-part-load-kernel-start
-part-load-kernel-start c = search needs
+part-load-kernel-start c = omega (arith, whole-n (part (c .before)))
 
 part-load-kernel-end : tie.Need-part-load-kernel-end
-part-load-kernel-end c = omega (arith, part-le (part (c .before)))
+part-load-kernel-end c = search needs
 
 load-kernel-requires : tie.Need-load-kernel-requires
 load-kernel-requires c κs =
@@ -69,7 +71,7 @@ returns c =
     let last = c .before .before in
     let loaded = last .before .before .before .before in
     kernel-ready (part (sized loaded)) (loaded .load-kernel .last .0) (loaded .load-kernel .kept .0) (loaded .load-kernel .ensures)
-    (last .corner-spectrum .last .0) (last .corner-spectrum .ensures .0) (last .corner-spectrum .ensures .1)
+    (last .corner-spectrum .last .0) (last .corner-spectrum .kept .0) (last .corner-spectrum .ensures .0) (last .corner-spectrum .ensures .1)
 
 pub kernel-spectrum-spec : {M : Type 1} → statement M
 kernel-spectrum-spec =
@@ -77,8 +79,8 @@ kernel-spectrum-spec =
     (tie.spec
     transform-length-requires
     mul-from
-    mul-to
-    add-to
+    mul-from-2
+    sub-from
     mul-load-kernel
     sub-load-kernel
     part-load-kernel-start

@@ -4,10 +4,9 @@ use mathlib.Core.List.{List, _++_}
 use Prim.Native.Nat.{ℕ, _+_, _*_, _-_, _≤_, _<_}
 use native.Mathlib.Nat.{mul-le-mul}
 use native.Mathlib.Omega.{arith}
-use lib.ListN.{length, take, length-append}
+use lib.ListN.{length, take, drop}
 use lib.Seq.{length-take-le, getD-take}
 use borrow.Author.Needs.{needs}
-use borrow.Rule.Slice.PartMut.{putMid, postOf}
 use denote.Ref.{now}
 use Rattle.algebra.specs.Places.{Changed}
 use Rattle.algebra.specs.PlacesLaws.{written-as, changed-written, changed-part, changed-again}
@@ -97,42 +96,36 @@ module _ (c : tie.After-add-channels) where
   abbrev ys : List ℕ
   ys = c .add-channels .last .0
 
-  abbrev lent : List ℕ
-  lent = take (part sizes - 0) ys
-
   length-is : length ys ≡ length (now (given .args .scratch))
   length-is = c .add-channels .ensures .0 .changed .same-length ∙ cleared .clear .ensures .same-length
 
-  lent-le : part sizes - 0 ≤ length ys
+  lent-le : part sizes ≤ length ys
   lent-le = omega (arith, length-is, room sizes)
 
-  lent-length : length lent ≡ area (given .args .layer)
-  lent-length = length-take-le (part sizes - 0) ys lent-le ∙ omega (arith, area-is sizes)
+  lent-length : length (take (part sizes) ys) ≡ area (given .args .layer)
+  lent-length = length-take-le (part sizes) ys lent-le ∙ area-is sizes
 
   at-tile : At (given .args .layer) (given .args .tile) (cleared .before .before .origin-of .result)
   at-tile =
       let is = cleared .before .before .origin-of .ensures .0 in
       record { channel = is .0; row = is .1; column = is .2 }
 
-sub-recover-tile : tie.Need-sub-recover-tile
-sub-recover-tile c = omega arith
+slice-relend-prefix-sum : tie.Need-slice-relend-prefix-sum
+slice-relend-prefix-sum c = lent-le (c .before .before)
 
-part-recover-tile-start : tie.Need-part-recover-tile-start
-part-recover-tile-start c = omega arith
-
-part-recover-tile-end : tie.Need-part-recover-tile-end
-part-recover-tile-end c = omega (arith, lent-le (c .before .before))
+slice-aggregate-sum : tie.Need-slice-aggregate-sum
+slice-aggregate-sum c = let sum = c .before .before .before in sym (length-take-le (part (sizes sum)) (ys sum) (lent-le sum))
 
 recover-tile-requires : tie.Need-recover-tile-requires
 recover-tile-requires c κs =
-    let sum = c .before .before .before in
+    let sum = c .before .before .before .before in
     let r = plan (given sum) .shape in
     (r .field-low, r .field-high, lent-length sum)
 
--- the tile's words, then the rest of scratch
+-- the tile's words
 module _ (c : tie.After-recover-tile) where
   abbrev sum : tie.After-add-channels
-  sum = c .before .before .before .before
+  sum = c .before .before .before .before .before
 
   abbrev source : tie.Start
   source = given sum
@@ -140,28 +133,25 @@ module _ (c : tie.After-recover-tile) where
   abbrev rs : List ℕ
   rs = c .recover-tile .last .0
 
-  abbrev rest : List ℕ
-  rest = postOf 0 (part (sizes sum) - 0) (ys sum)
-
   words-length : length rs ≡ area (source .args .layer)
   words-length = c .recover-tile .kept .0 ∙ lent-length sum
 
   -- what Finishing says of a place that the tile holds
   held : let g = source .args in
       (p : ℕ) → p < length (now (g .output)) → tileOf (g .layer) p ≡ g .tile
-      → Storable (offsetOf (g .layer .field)) (wordOf (g .layer) (g .tile) p (rs ++ rest))
-      × (storedAt (g .layer) (g .tile) (rs ++ rest) p ≡ directAt (g .layer) (now (g .map)) (now (g .kernel)) p)
+      → Storable (offsetOf (g .layer .field)) (wordOf (g .layer) (g .tile) p rs)
+      × (storedAt (g .layer) (g .tile) rs p ≡ directAt (g .layer) (now (g .map)) (now (g .kernel)) p)
   held =
       let g = source .args in
       finished (g .layer) (now (g .map)) (now (g .kernel)) (length (now (g .output))) (length (now (g .scratch))) (g .tile) (source .pre .0 .0)
-      _ (at-tile sum) _ (ys sum) (lent sum) rs rest (sum .add-channels .ensures .0)
-      (λ i h. getD-take (part (sizes sum) - 0) (ys sum) i 0 (omega (arith, area-is (sizes sum)))) (c .recover-tile .ensures) words-length
+      _ (at-tile sum) _ (ys sum) (take (part (sizes sum)) (ys sum)) rs (sum .add-channels .ensures .0)
+      (λ i h. getD-take (part (sizes sum)) (ys sum) i 0 (omega (arith, area-is (sizes sum)))) (c .recover-tile .ensures)
 
 store-tile-requires : tie.Need-store-tile-requires
 store-tile-requires c κs =
     let tile = c .before .before .before .before in
     let s = source tile in
-    ((plan s, s .pre .0 .0 .output-length, s .pre .0 .1), (omega (arith, words-length tile, length-append (rs tile) (rest tile)), λ p below e. held tile p below e .0))
+    ((plan s, s .pre .0 .0 .output-length, s .pre .0 .1), (omega (arith, words-length tile), λ p below e. held tile p below e .0))
 
 same-length : tie.Need-same-length
 same-length c = search needs
@@ -171,20 +161,21 @@ same-length-2 c = search needs
 
 returns : tie.Need-returns
 returns c =
-    let tile = c .before .before .before .before .before .before in
+    let stored = c .before .before .before in
+    let tile = stored .before .before .before .before .before in
     let all = sum tile in
-    let k = part (sizes all) - 0 in
+    let k = part (sizes all) in
     let g = source tile .args in
     let a = area (g .layer) in
-    let none = changed-written 0 k (cleared all .clear .ensures) in
-    let back : Changed 0 0 (0 + k) (ys all) (putMid 0 k (ys all) (rs tile)) =
+    let none = changed-written 0 (k - 0) (cleared all .clear .ensures) in
+    let back : Changed 0 0 (0 + k) (ys all) (rs tile ++ drop k (ys all)) =
     changed-part (ys all) (rs tile) 0 k (omega (arith, lent-le all)) (omega (arith, words-length tile, area-is (sizes all))) in
-    let small : 0 + k ≤ 3 * a = omega (arith, area-is (sizes all)) in (
-      written-as (c .before .store-tile .ensures) (λ p l h. h) (λ p h. h) (λ p below e. held tile p below e .1),
+    let small : k ≤ 3 * a = omega (arith, area-is (sizes all)) in (
+      written-as (stored .store-tile .ensures) (λ p l h. h) (λ p h. h) (λ p below e. held tile p below e .1),
       (
-        changed-again 0 (3 * a) (omega arith) (omega arith) (omega arith) small
-            (changed-again 0 (3 * a) (omega arith) (omega arith) small (omega arith) none (all .add-channels .ensures .0 .changed)) back,
-        subst (λ (m : ℕ). KernelKept (g .layer) (now (g .kernel)) m (g .layer .inputs - 1) (putMid 0 k (ys all) (rs tile))) (at-tile all .channel)
+        changed-again 0 (3 * a) (omega arith) (omega arith) (omega arith) (omega arith)
+            (changed-again 0 (3 * a) (omega arith) (omega arith) (omega arith) (omega arith) none (all .add-channels .ensures .0 .changed)) back,
+        subst (λ (m : ℕ). KernelKept (g .layer) (now (g .kernel)) m (g .layer .inputs - 1) (rs tile ++ drop k (ys all))) (at-tile all .channel)
             (kernel-left (all .add-channels .ensures .1) (omega (arith, area-is (sizes all))) back),
       ),
     )
@@ -198,9 +189,8 @@ finish-tile-spec =
     origin-of-requires
     clear-requires
     add-channels-requires
-    sub-recover-tile
-    part-recover-tile-start
-    part-recover-tile-end
+    slice-relend-prefix-sum
+    slice-aggregate-sum
     recover-tile-requires
     store-tile-requires
     same-length
