@@ -1,0 +1,4 @@
+-- definitions
+pub mod Sequence
+-- laws
+pub mod SequenceLaws
