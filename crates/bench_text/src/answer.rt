@@ -119,9 +119,10 @@ fn put_body(lines: &mut [u8], layer: Layer, text: &[u8], at: usize) -> usize
     )
 }
 
-// The first bytes of `lines` become what the bench program prints; their count is the answer.
+// The first bytes of `lines` become what the bench program prints; their count is the answer. The bytes after them stay.
 pub fn answer(lines: &mut [u8; 16384], input: &[u8]) -> usize
-    ensures { λ r. ⌜ (r ≤ length (now (lines .exit))) × (take r (now (lines .exit)) ≡ printed (now (input .entry))) ⌝ }
+    ensures { λ r. ⌜ (r ≤ length (now (lines .exit))) × (take r (now (lines .exit)) ≡ printed (now (input .entry)))
+        × (drop r (now (lines .exit)) ≡ drop r (now (lines .entry))) ⌝ }
 {
     let long = input.len() > 16384;
     let end = lesser(input.len(), 16384);

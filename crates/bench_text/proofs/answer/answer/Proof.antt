@@ -94,7 +94,9 @@ returns : tie.Need-returns
 returns c =
     let none = c .before .before in
     let h = none .before .before in
-    rw (header-unread (input h) (sym (reads h) ∙ not-true _ (none .if1 .taken))) (append-within (c .put-unreadable .ensures), c .put-unreadable .ensures .shown)
+    let put = c .put-unreadable .ensures in
+    rw (header-unread (input h) (sym (reads h) ∙ not-true _ (none .if1 .taken)))
+    (append-within put, put .shown, put .after)
 
 layer-of-requires : tie.Need-layer-of-requires
 layer-of-requires c κs = search needs
@@ -112,7 +114,9 @@ returns-2 : tie.Need-returns-2
 returns-2 c =
     let refused = c .before .before .before in
     let p = refused .before in
-    rw (layer-refused (input (header p)) (header-there p) (λ z. refused .if2 .taken (code-is p ∙ z)), ← code-is p) (append-within (c .put-numbered .ensures), c .put-numbered .ensures .shown)
+    let put = c .put-numbered .ensures in
+    rw (layer-refused (input (header p)) (header-there p) (λ z. refused .if2 .taken (code-is p ∙ z)), ← code-is p)
+    (append-within put, put .shown, put .after)
 
 put-unreadable-requires-2 : tie.Need-put-unreadable-requires-2
 put-unreadable-requires-2 c κs = search needs
@@ -121,7 +125,9 @@ returns-3 : tie.Need-returns-3
 returns-3 c =
     let long = c .before .before in
     let p = long .before .before in
-    rw (long-unread (input (header p)) (header-there p) (accepted (long .before)) (long .if3 .taken)) (append-within (c .put-unreadable2 .ensures), c .put-unreadable2 .ensures .shown)
+    let put = c .put-unreadable2 .ensures in
+    rw (long-unread (input (header p)) (header-there p) (accepted (long .before)) (long .if3 .taken))
+    (append-within put, put .shown, put .after)
 
 put-body-requires : tie.Need-put-body-requires
 put-body-requires c κs =
@@ -133,8 +139,9 @@ returns-4 : tie.Need-returns-4
 returns-4 c =
     let short = c .before .before in
     let p = short .before .before in
+    let put = c .put-body .ensures in
     rw (← body-follows (input (header p)) (header-there p) (accepted (short .before)) (layer-is p) (body-is short) (short .if3 .left))
-    (append-within (c .put-body .ensures), c .put-body .ensures .shown)
+    (append-within put, put .shown, put .after)
 
 pub answer-spec : {M : Type 1} → statement M
 answer-spec =
