@@ -4,6 +4,7 @@ use Prim.Native.Nat.{ℕ, zero, suc}
 use borrow.Author.Needs.{needs}
 use Rattle.layer.specs.Planned.{Planned}
 use Rattle.layer.specs.declared.shape.Layer.{Layer}
+use Rattle.layer.specs.declared.shape.Plan.{Plan}
 use Rattle.checks.specs.Engine.{tileEngine}
 use Rattle.checks.specs.Checks.{planCode, figures, planOf}
 use Rattle.checks.specs.ChecksLaws.{planned}
@@ -14,6 +15,12 @@ use Rattle.checks.proofs.planner.plan.Tie as tie
 refused : (code : ℕ) (l : Layer) → (code ≡ 0 → ⊥) → record { code = code; height = 0; width = 0; tiles = 0; scratch = 0 } ≡ figures tileEngine code l
 refused zero l stopped = absurd (stopped refl)
 refused (suc code) l stopped = refl
+
+made : {height width tiles scratch height' width' tiles' scratch' : ℕ}
+    → height ≡ height' → width ≡ width' → tiles ≡ tiles' → scratch ≡ scratch'
+    → _≡_ {A = Plan} (record { code = 0; height = height; width = width; tiles = tiles; scratch = scratch })
+    (record { code = 0; height = height'; width = width'; tiles = tiles'; scratch = scratch' })
+made h w t s = cc
 
 accepted : (c : tie.Else1) → planCode tileEngine (c .before .before .args .layer) ≡ 0
 accepted c = sym (c .before .plan-code .ensures) ∙ c .if1 .left
@@ -47,7 +54,9 @@ unfolding planOf
 returns-2 c =
     let else = c .before .before .before .before in
     let l = else .before .before .args .layer in
-    cc (ap (λ (code : ℕ). figures tileEngine code l) (accepted else))
+    made (c .before .before .before .full-size .ensures) (c .before .before .full-size2 .ensures) (c .before .tile-total .ensures)
+    (c .scratch-words .ensures)
+    ∙ sym (ap (λ (code : ℕ). figures tileEngine code l) (accepted else))
 
 pub plan-spec : {M : Type 1} → statement M
 plan-spec =

@@ -1,5 +1,6 @@
 -- `grid_start` is the sum of its contract: at most 2,055 × 4 and 8,280 × 64.
-use Prim.Native.Nat.{_*_, _≤_}
+use mathlib.Core.Path.{ap₂}
+use Prim.Native.Nat.{ℕ, _+_, _*_, _≤_}
 use native.Mathlib.Nat.{mul-le-mul}
 use native.Mathlib.Omega.{arith}
 use borrow.Author.Needs.{needs}
@@ -34,7 +35,9 @@ add-result : tie.Need-add-result
 add-result c = omega (arith, steps (c .before), tiles c)
 
 returns : tie.Need-returns
-returns c = cc
+returns c =
+    let s = c .before .before in
+    ap₂ (λ (step side : ℕ). s .args .first * step + s .args .before * side) (c .before .grid-step .ensures) (c .tile-side .ensures)
 
 pub grid-start-spec : {M : Type 1} → statement M
 grid-start-spec = tie.close (tie.spec grid-step-requires mul-result tile-side-requires mul-result-2 add-result returns)

@@ -1,4 +1,5 @@
 -- `tile_total` is the product of `tileTotal`: at most 64 channels, 8,280 tile rows and 8,280 tile columns.
+use mathlib.Core.Path.{ap, ap₂}
 use Prim.Native.Nat.{_*_, _≤_}
 use native.Mathlib.Nat.{mul-le-mul}
 use native.Mathlib.Omega.{arith}
@@ -30,7 +31,8 @@ mul-result-2 c = omega (arith, mul-le-mul (rows-product (c .before .before)) (co
 
 returns : tie.Need-returns
 unfolding tileTotal
-returns c = cc
+returns c =
+    ap₂ _*_ (ap (_*_ (c .before .before .before .args .layer .outputs)) (c .before .before .tiles-along .ensures)) (c .tiles-along2 .ensures)
 
 pub tile-total-spec : {M : Type 1} → statement M
 tile-total-spec = tie.close (tie.spec tiles-along-requires mul-result tiles-along-requires-2 mul-result-2 returns)

@@ -1,4 +1,6 @@
 -- `tiles_along` divides the span by the tile's side; both are small.
+use mathlib.Core.Path.{ap₂, _∙_}
+use Rattle.base.specs.Number.{ceilingDiv}
 use native.Mathlib.Omega.{arith}
 use borrow.Author.Needs.{needs}
 use Rattle.layer.specs.TileSizeLaws.{tile-side-low, tile-side-high, span-high}
@@ -20,7 +22,7 @@ ceiling-div-requires c κs =
     (omega arith, omega arith)
 
 returns : tie.Need-returns
-returns c = cc
+returns c = c .ceiling-div .ensures ∙ ap₂ ceilingDiv (c .before .before .span-of .ensures) (c .before .tile-side .ensures)
 
 pub tiles-along-spec : {M : Type 1} → statement M
 tiles-along-spec = tie.close (tie.spec span-of-requires tile-side-requires ceiling-div-requires returns)

@@ -1,9 +1,10 @@
 -- `shown_of` computes the figures of a row. It rests on the laws of steps across a line, here of `spacing` on the grid.
-use mathlib.Core.Path.{_≡_, refl, ap}
+use mathlib.Core.Path.{_≡_, refl, ap, ap₂, _∙_}
 use Prim.Native.Nat.{ℕ, _+_, _*_, _-_, _≤_, _<_}
 use native.Mathlib.Omega.{arith}
 use borrow.Author.Needs.{needs}
 use Rattle.base.specs.Number.{ceilingDiv}
+use Rattle.fermat.specs.Field.{transformLength}
 use Rattle.layer.specs.TileSizeLaws.{length-low, length-high}
 use Rattle.window.specs.Shows.{Shows}
 use Rattle.window.specs.Window.{spacing, edge}
@@ -83,6 +84,18 @@ module _ (c : tie.After-above2) where
   abbrev found : tie.After-ceiling-div
   found = c .before .before .before
 
+  room-is : let a = start found .args in let l = a .layer in let first = found .ceiling-div .result in
+      c .before .ceiling-div2 .result ≡ ceilingDiv (transformLength (l .field) - (edge l + first * spacing l - a .column)) (spacing l)
+  room-is =
+      let a = start found .args in
+      let first = found .ceiling-div .result in
+      let apart-is = spaced found .spacing-of .ensures in
+      c .before .ceiling-div2 .ensures
+      ∙ ap₂ ceilingDiv
+      (ap₂ _-_ (c .before .before .transform-length .ensures)
+      (ap₂ (λ (before apart : ℕ). before + first * apart - a .column) (found .before .before .edge-of .ensures) apart-is))
+      apart-is
+
   made : (count : ℕ) → let a = start found .args in let first = found .ceiling-div .result in
       let room = c .before .ceiling-div2 .result in let left = c .above2 .result in
       let apart = spaced found .spacing-of .result in let before = found .before .before .edge-of .result in
@@ -91,7 +104,7 @@ module _ (c : tie.After-above2) where
   made count in-room in-left most =
       let s = start found in
       rw (← spaced found .spacing-of .ensures, ← found .before .before .edge-of .ensures) at
-      (shows (s .args .layer) (s .pre .0) (s .args .column) _ _ (first-is found) refl (c .before .ceiling-div2 .result) count (s .pre .1) (cc) in-room
+      (shows (s .args .layer) (s .pre .0) (s .args .column) _ _ (first-is found) refl (c .before .ceiling-div2 .result) count (s .pre .1) room-is in-room
       (omega arith) (λ i h k. most i h (omega arith)))
 
 returns : tie.Need-returns
