@@ -4,6 +4,7 @@ ghost use lib.ListN.{length};
 use crate::print;
 use checks::planner::plan;
 use layer::shape::Layer;
+use vectors::text::line;
 
 // A layer of one channel each, not cropped.
 fn whole(
@@ -56,39 +57,22 @@ fn on_x(number: u64, kernel: &[i16]) {
     run_case(number, layer, &x, kernel, &mut output);
 }
 
-// Cases 2 to 4: the map Y of 2 by 2 transposed with the kernel G, which has the same values, to outputs of `side` by `side`.
-fn on_y(number: u64, stride: usize, padding: usize, side: usize, output: &mut [i32])
-    requires { ⌜ length (now output) ≤ 1024 ⌝ }
+// Cases 2 to 4: the map Y of 2 by 2 transposed with the kernel G, which has the same values, to outputs of `side` by `side`, `count` in all.
+fn on_y(number: u64, stride: usize, padding: usize, side: usize, count: usize)
+    requires { ⌜ count ≤ 16 ⌝ }
 {
     let y = [1i16, 2, 3, 4];
     let layer = whole(1, 4, 2, 2, 2, stride, padding, 4, side, side);
-    run_case(number, layer, &y, &y, output);
-}
-
-// Case 2: a stride of 2.
-fn strided() {
     let mut output = [0i32; 16];
-    on_y(2, 2, 0, 4, &mut output);
+    run_case(number, layer, &y, &y, &mut output[..count]);
 }
 
-// Case 3: overlapping windows.
-fn overlapping() {
-    let mut output = [0i32; 9];
-    on_y(3, 1, 0, 3, &mut output);
-}
-
-// Case 4: padding.
-fn padded() {
-    let mut output = [0i32; 1];
-    on_y(4, 1, 1, 1, &mut output);
-}
-
-// Cases 1 to 4 and 6: X, Y and G.
+// Cases 1 to 4 and 6: X, Y and G. Case 2 has a stride of 2, case 3 overlapping windows, case 4 padding.
 fn small_charts() {
     on_x(1, &[1, 2, 3, 4]);
-    strided();
-    overlapping();
-    padded();
+    on_y(2, 2, 0, 4, 16);
+    on_y(3, 1, 0, 3, 9);
+    on_y(4, 1, 1, 1, 1);
     on_x(6, &[1, 0, 0, -1]);
 }
 
@@ -152,9 +136,7 @@ fn peaks() {
         }
         peak += 1;
     }
-    print::number(b"case", 13);
-    print::number(b"refused", refused);
-    print::end_line();
+    line(b"case # refused # \n", &[13, refused]);
 }
 
 pub fn run() {

@@ -5,16 +5,7 @@ use crate::print;
 use engine::job::Job;
 use layer::shape::Layer;
 use vectors::sequence::draw_values;
-
-// What a call with that budget answers.
-fn print_answer(budget: u64, code: u64, count: u64, next: u64, done: u64) {
-    print::number(b"budget", budget);
-    print::number(b"code", code);
-    print::number(b"count", count);
-    print::number(b"next", next);
-    print::number(b"done", done);
-    print::end_line();
-}
+use vectors::text::line;
 
 // One call: what it answers, and the output that it leaves. Scratch is lent anew to each call, dirty and one word longer than is used in F_5.
 fn stop(job: Job, budget: usize, map: &[i16], kernel: &[i16], output: &mut [i32]) -> Job
@@ -22,13 +13,14 @@ fn stop(job: Job, budget: usize, map: &[i16], kernel: &[i16], output: &mut [i32]
 {
     let mut scratch = [7u64; 12289];
     let progress = job.advance(budget, map, kernel, output, &mut scratch);
-    print_answer(
+    let answer = [
         budget as u64,
         progress.code as u64,
         progress.count as u64,
         progress.job.next as u64,
         progress.done as u64,
-    );
+    ];
+    line(b"budget # code # count # next # done # \n", &answer);
     let columns = progress.job.layer.columns;
     if 0 < columns {
         print::rows(output, columns);

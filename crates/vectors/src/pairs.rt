@@ -3,6 +3,7 @@
 ghost use Prim.Native.Nat.{_<_, _≤_};
 ghost use lib.ListN.{length};
 use crate::sequence::next;
+use crate::text::line;
 use libc::STDOUT_FILENO;
 
 const VECTORS: u64 = 8;
@@ -46,16 +47,10 @@ fn vector(words: &mut [u64], number: u64, m: u64, seed: u64) -> u64
     if 2 < number {
         return draw(words, m, seed);
     }
-    if number == 2 {
-        fill(words, m - 1);
-        return seed;
-    }
-    fill(words, 0);
-    if number == 1 {
-        words[1] = m - 1;
-    } else {
-        words[1] = 1;
-    }
+    let word = if number == 0 { 1 } else { m - 1 };
+    let others = if number == 2 { word } else { 0 };
+    fill(words, others);
+    words[1] = word;
     seed
 }
 
@@ -69,21 +64,12 @@ fn print_words(words: &[u64]) {
     io::write_all(STDOUT_FILENO, b"\n");
 }
 
-// The field and the number of a vector.
-fn name_vector(field: usize, number: u64) {
-    io::write_all(STDOUT_FILENO, b"field ");
-    io::print_decimal(STDOUT_FILENO, field as u64);
-    io::write_all(STDOUT_FILENO, b" vector ");
-    io::print_decimal(STDOUT_FILENO, number);
-    io::write_all(STDOUT_FILENO, b"\n");
-}
-
 // One vector, its transform and its inverse. The inverse is taken twice: the first undoes the transform.
 fn run_vector(field: usize, words: &mut [u64], number: u64, seed: u64) -> u64
     requires { ⌜ 1 < length (now words) ⌝ }
 {
     let state = vector(words, number, modulus(field), seed);
-    name_vector(field, number);
+    line(b"field # vector #\n", &[field as u64, number]);
     print_words(words);
     transform::transform(field, words);
     print_words(words);
@@ -112,22 +98,13 @@ fn set_last(words: &mut [u64], word: u64) {
     words[last] = word;
 }
 
-// The answers of both routines.
-fn print_refusals(code: usize, again: usize) {
-    io::write_all(STDOUT_FILENO, b"refused ");
-    io::print_decimal(STDOUT_FILENO, code as u64);
-    io::write_all(STDOUT_FILENO, b" ");
-    io::print_decimal(STDOUT_FILENO, again as u64);
-    io::write_all(STDOUT_FILENO, b" ");
-}
-
 // Calls on words 7, the last of which is `word`: the answers of both routines, and the words that they leave.
 fn refuse(field: usize, words: &mut [u64], word: u64) {
     fill(words, 7);
     set_last(words, word);
     let code = transform::transform(field, words);
     let again = transform::inverse(field, words);
-    print_refusals(code, again);
+    line(b"refused # # ", &[code as u64, again as u64]);
     print_words(words);
 }
 

@@ -7,10 +7,10 @@ use Rattle.cases.proofs.charts.peaks.Statement.{statement}
 use Rattle.cases.proofs.charts.peaks.Tie as tie
 
 abbrev Inv-loop : tie.InvT-loop
-Inv-loop refused₀ peak₀ t3 t4 refused peak = (refused ≤ peak) × (peak ≤ 32768)
+Inv-loop refused₀ peak₀ t3 refused peak = (refused ≤ peak) × (peak ≤ 32768)
 
 abbrev μ-loop : tie.MeasureT-loop
-μ-loop refused₀ peak₀ t3 t4 refused peak = 32768 - peak
+μ-loop refused₀ peak₀ t3 refused peak = 32768 - peak
 
 loop-holds : tie.Need-loop-holds Inv-loop μ-loop
 loop-holds c = search needs
@@ -30,20 +30,14 @@ loop-less c = search needs
 loop-again : tie.Need-loop-again Inv-loop μ-loop
 loop-again c = ⊎-elim (λ w. omega arith) (λ w. omega arith) (c .if1 .came)
 
-slice-aggregate-number : tie.Need-slice-aggregate-number Inv-loop μ-loop
-slice-aggregate-number c = search needs
+slice-aggregate-line : tie.Need-slice-aggregate-line Inv-loop μ-loop
+slice-aggregate-line c = search needs
 
-number-requires : tie.Need-number-requires Inv-loop μ-loop
-number-requires c κs = search needs
+slice-aggregate-line-2 : tie.Need-slice-aggregate-line-2 Inv-loop μ-loop
+slice-aggregate-line-2 c = search needs
 
-slice-aggregate-number-2 : tie.Need-slice-aggregate-number-2 Inv-loop μ-loop
-slice-aggregate-number-2 c = search needs
-
-number-requires-2 : tie.Need-number-requires-2 Inv-loop μ-loop
-number-requires-2 c κs = search needs
-
-end-line-requires : tie.Need-end-line-requires Inv-loop μ-loop
-end-line-requires c κs = search needs
+line-requires : tie.Need-line-requires Inv-loop μ-loop
+line-requires c κs = search needs
 
 returns : tie.Need-returns Inv-loop μ-loop
 returns c = search needs
@@ -60,9 +54,7 @@ peaks-spec =
     add-peak
     loop-less
     loop-again
-    slice-aggregate-number
-    number-requires
-    slice-aggregate-number-2
-    number-requires-2
-    end-line-requires
+    slice-aggregate-line
+    slice-aggregate-line-2
+    line-requires
     returns)
