@@ -104,8 +104,8 @@ module _ (c : tie.After-above2) where
   made count in-room in-left most =
       let s = start found in
       rw (← spaced found .spacing-of .ensures, ← found .before .before .edge-of .ensures) at
-      (shows (s .args .layer) (s .pre .0) (s .args .column) _ _ (first-is found) refl (c .before .ceiling-div2 .result) count (s .pre .1) room-is in-room
-      (omega arith) (λ i h k. most i h (omega arith)))
+      (shows (s .args .layer) (s .pre .0) (s .args .column) _ _ (first-is found) refl (c .before .ceiling-div2 .result) count (s .pre .1) room-is
+      in-room (omega arith) (λ i h k. most i h (omega arith)))
 
 returns : tie.Need-returns
 returns c = made (c .before) (c .before .before .ceiling-div2 .result) (omega arith) (omega (arith, c .if1 .taken)) (λ i h k. h)
