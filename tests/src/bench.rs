@@ -16,8 +16,8 @@ pub const MOST_OUTPUTS: usize = 1_024;
 /// What is printed for an input that cannot be read.
 pub const UNREADABLE: &str = "unreadable\n";
 
-/// Numbers of a header.
-const FIGURES: usize = 14;
+/// Numbers of a header: those of a layer but for the rows and columns that are added, of which there are none.
+pub const FIGURES: usize = 14;
 
 /// Every byte that must be printed.
 pub fn printed(input: &[u8]) -> String {

@@ -1,6 +1,6 @@
 //! Inputs of the bench program: runs that it accepts, written with any separators, and inputs that are spoiled.
 
-use crate::bench::{small, LONGEST};
+use crate::bench::{small, FIGURES, LONGEST};
 use crate::call::Call;
 use crate::draw;
 use crate::random::Random;
@@ -9,16 +9,16 @@ use crate::random::Random;
 pub fn call(random: &mut Random, kind: usize) -> Call {
     loop {
         let layer = draw::any_layer(random, kind, 4, 5, 40);
-        if small(&layer) {
+        if small(&layer) && (layer.below, layer.beside) == (0, 0) {
             return draw::call(random, layer);
         }
     }
 }
 
-/// The words of an input: the header, the map, the kernel.
+/// The words of an input: the header, which has no place for rows and columns that are added, the map, the kernel.
 pub fn words(call: &Call) -> Vec<String> {
     let values = call.map.iter().chain(&call.kernel).map(i16::to_string);
-    call.layer.numbers().iter().map(usize::to_string).chain(values).collect()
+    call.layer.numbers()[..FIGURES].iter().map(usize::to_string).chain(values).collect()
 }
 
 /// Words with single spaces between.

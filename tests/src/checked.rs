@@ -2,8 +2,11 @@
 //! the output, the scratch, the guard values, and what was lent to read.
 
 use crate::call::{Buffer, Buffers, Call};
+use crate::direct::direct_sums;
+use crate::draw;
 use crate::engine::{self, Answer};
 use crate::layer::Layer;
+use crate::random::Random;
 use crate::rules;
 use std::fmt::Debug;
 use std::ops::Range;
@@ -32,6 +35,17 @@ pub fn run(call: &Call, buffers: &mut Buffers, sums: Option<&[i64]>) -> Answer {
     held(&whole, buffers, sums, |output, scratch| {
         engine::run(&whole.layer.numbers(), &whole.map, &whole.kernel, output, scratch)
     })
+}
+
+/// Plans and runs a call with buffers of any contents, and holds its whole output to the direct sums, which are returned.
+pub fn whole_run(random: &mut Random, call: &Call) -> Vec<i64> {
+    let mut buffers = draw::buffers(random, call);
+    let sums = direct_sums(&call.layer, &call.map, &call.kernel);
+    assert_eq!(plan(&call.layer), 0, "plan of {:?}", call.layer);
+    let answer = run(call, &mut buffers, Some(&sums));
+    assert_eq!((answer.number, answer.done), (0, 1), "run of {:?}", call.layer);
+    assert!(buffers.output.words().iter().map(|&word| i64::from(word)).eq(sums.iter().copied()), "{:?}", call.layer);
+    sums
 }
 
 fn held(

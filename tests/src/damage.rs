@@ -21,7 +21,7 @@ impl Damage {
     }
 }
 
-/// The rule, the place among the fourteen numbers, and the range.
+/// The rule, the place among the sixteen numbers, and the range.
 const RANGES: [(usize, usize, usize, usize); 9] = [
     (1, 0, 0, 1),
     (2, 1, 4, 5),
@@ -45,11 +45,7 @@ fn ranges() -> Vec<Damage> {
     let mut damages = Vec::new();
     for (rule, place, least, most) in RANGES {
         for value in outside(least, most) {
-            let apply = move |call: &mut Call| {
-                let mut numbers = call.layer.numbers();
-                numbers[place] = value;
-                call.layer = Layer::of(numbers);
-            };
+            let apply = move |call: &mut Call| call.layer = call.layer.with(place, value);
             damages.push(Damage { rule, name: format!("number {place} is {value}"), apply: Box::new(apply) });
         }
     }
@@ -59,12 +55,20 @@ fn ranges() -> Vec<Damage> {
 /// A rule, a name and a way to break the rule.
 type Entry = (usize, &'static str, fn(&mut Call));
 
-const SIZES: [Entry; 21] = [
+const SIZES: [Entry; 29] = [
     (7, "padding is the side", |call| call.layer.padding = call.layer.side),
     (7, "padding is 65,536", |call| call.layer.padding = 1 << 16),
     (7, "padding is 2 to the power 32", |call| call.layer.padding = 1 << 32),
     (7, "padding is 2 to the power 63", |call| call.layer.padding = 1 << 63),
     (7, "padding is the greatest number", |call| call.layer.padding = usize::MAX),
+    (23, "as many rows added as the stride", |call| call.layer.below = call.layer.stride),
+    (23, "as many columns added as the stride", |call| call.layer.beside = call.layer.stride),
+    (23, "a row added too many for the kind", |call| call.layer.below = too_many(&call.layer)),
+    (23, "a column added too many for the kind", |call| call.layer.beside = too_many(&call.layer)),
+    (23, "65,536 rows added", |call| call.layer.below = 1 << 16),
+    (23, "2 to the power 32 columns added", |call| call.layer.beside = 1 << 32),
+    (23, "2 to the power 63 rows added", |call| call.layer.below = 1 << 63),
+    (23, "the greatest number of columns added", |call| call.layer.beside = usize::MAX),
     (8, "one row too few", |call| {
         let (height, window) = one_too_few(call.layer);
         call.layer = Layer { height, ..window };
@@ -94,13 +98,22 @@ const SIZES: [Entry; 21] = [
     (9, "columns is the greatest number", |call| call.layer.columns = usize::MAX),
 ];
 
+/// The least count of rows or columns that may not be added: in CONV none may.
+fn too_many(layer: &Layer) -> usize {
+    if layer.kind == CONV {
+        1
+    } else {
+        layer.stride
+    }
+}
+
 /// A map length that is one short of an output, and the layer with the window that makes it so.
-/// CONV: 6 + 2·2 is one below 11. TCONV: (1 − 1)S + 2 − 2·1 is 0.
+/// CONV: 6 + 2·2 is one below 11. TCONV: (1 − 1)S + 2 − 2·1 is 0, with nothing added.
 fn one_too_few(layer: Layer) -> (usize, Layer) {
     if layer.kind == CONV {
         (6, Layer { side: 11, padding: 2, ..layer })
     } else {
-        (1, Layer { side: 2, padding: 1, ..layer })
+        (1, Layer { side: 2, padding: 1, below: 0, beside: 0, ..layer })
     }
 }
 

@@ -2,11 +2,11 @@
 
 use crate::call::{Buffer, Buffers, Call};
 use crate::groups::{groups, set_group};
-use crate::layer::Layer;
+use crate::layer::{Layer, CONV};
 use crate::random::Random;
 use crate::rules::load_limit;
 
-/// A layer of which kind, field, K, S and P are given; channels, map, peak and crop are drawn.
+/// A layer of which kind, field, K, S and P are given; channels, map, peak, crop and what is added are drawn.
 pub fn layer(random: &mut Random, given: Layer, most_channels: usize, longest: usize) -> Layer {
     let mut layer = Layer {
         inputs: random.between(1, most_channels),
@@ -14,6 +14,8 @@ pub fn layer(random: &mut Random, given: Layer, most_channels: usize, longest: u
         height: length(random, longest),
         width: length(random, longest),
         peak: peak(random),
+        below: added(random, &given),
+        beside: added(random, &given),
         ..given
     };
     lengthen(&mut layer);
@@ -22,11 +24,20 @@ pub fn layer(random: &mut Random, given: Layer, most_channels: usize, longest: u
     Layer { top, left, rows, columns, ..layer }
 }
 
-/// A layer of a kind and field with any window; channels, map, peak and crop are drawn.
+/// A layer of a kind and field with any window; channels, map, peak, crop and what is added are drawn.
 pub fn any_layer(random: &mut Random, kind: usize, field: usize, most_channels: usize, longest: usize) -> Layer {
     let side = random.between(1, 11);
     let (stride, padding) = (random.between(1, 4), random.below(side));
     layer(random, Layer { kind, field, side, stride, padding, ..Layer::default() }, most_channels, longest)
+}
+
+/// Rows or columns to add: none in CONV.
+fn added(random: &mut Random, layer: &Layer) -> usize {
+    if layer.kind == CONV || random.once_in(2) {
+        0
+    } else {
+        random.below(layer.stride)
+    }
 }
 
 /// Mostly short.

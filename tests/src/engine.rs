@@ -83,7 +83,7 @@ pub struct Answer {
 }
 
 /// The number and the four figures: E, F, the tile total and 3N².
-pub fn plan(layer: &[usize; 14]) -> (usize, [usize; 4]) {
+pub fn plan(layer: &[usize; 16]) -> (usize, [usize; 4]) {
     let mut figures = [UNWRITTEN; 4];
     let number = called!(wemsteky_plan(layer.as_ptr()), read(), written(), figures.as_mut_ptr());
     (number, figures)
@@ -97,12 +97,12 @@ fn answer(call: impl FnOnce(*mut usize) -> usize) -> Answer {
     Answer { number, count, next, done }
 }
 
-pub fn run(layer: &[usize; 14], map: &[i16], kernel: &[i16], output: &mut [i32], scratch: &mut [u64]) -> Answer {
+pub fn run(layer: &[usize; 16], map: &[i16], kernel: &[i16], output: &mut [i32], scratch: &mut [u64]) -> Answer {
     answer(|figures| called!(wemsteky_run(layer.as_ptr()), read(map, kernel), written(output, scratch), figures))
 }
 
 pub fn job(
-    layer: &[usize; 14],
+    layer: &[usize; 16],
     (next, budget): (usize, usize),
     (map, kernel): (&[i16], &[i16]),
     output: &mut [i32],
@@ -130,7 +130,7 @@ pub fn noise(seed: u32, map: &mut [i16]) -> u32 {
 }
 
 /// Each layer with its kernel.
-pub fn join(first: (&[usize; 14], &[i16]), second: (&[usize; 14], &[i16]), joined: &mut [i16]) -> usize {
+pub fn join(first: (&[usize; 16], &[i16]), second: (&[usize; 16], &[i16]), joined: &mut [i16]) -> usize {
     let (layer, kernel) = first;
     called!(
         wemsteky_join(layer.as_ptr(), kernel.as_ptr(), kernel.len(), second.0.as_ptr()),

@@ -1,4 +1,4 @@
-//! A layer as its fourteen numbers: its full output, its tiles and the lengths that it asks for, from the request's
+//! A layer as its sixteen numbers: its full output, its tiles and the lengths that it asks for, from the request's
 //! formulas. Sizes are taken in 128 bits; they are asked for only of layers whose numbers are inside their ranges.
 
 use crate::transform::points;
@@ -23,18 +23,46 @@ pub struct Layer {
     pub left: usize,
     pub rows: usize,
     pub columns: usize,
+    pub below: usize,
+    pub beside: usize,
 }
 
 impl Layer {
-    /// The layer of fourteen numbers in the request's order.
+    /// The layer of fourteen numbers in the request's order, with no rows or columns added.
     pub fn of(numbers: [usize; 14]) -> Layer {
         let [kind, field, inputs, outputs, height, width, side, stride, padding, peak, top, left, rows, columns] =
             numbers;
-        Layer { kind, field, inputs, outputs, height, width, side, stride, padding, peak, top, left, rows, columns }
+        let (below, beside) = (0, 0);
+        Layer {
+            kind,
+            field,
+            inputs,
+            outputs,
+            height,
+            width,
+            side,
+            stride,
+            padding,
+            peak,
+            top,
+            left,
+            rows,
+            columns,
+            below,
+            beside,
+        }
     }
 
-    /// The fourteen numbers in the request's order.
-    pub fn numbers(&self) -> [usize; 14] {
+    /// The layer with one of its sixteen numbers replaced.
+    pub fn with(self, place: usize, number: usize) -> Layer {
+        let mut numbers = self.numbers();
+        numbers[place] = number;
+        let [first @ .., below, beside] = numbers;
+        Layer { below, beside, ..Layer::of(first) }
+    }
+
+    /// The sixteen numbers in the request's order.
+    pub fn numbers(&self) -> [usize; 16] {
         let Layer {
             kind,
             field,
@@ -50,26 +78,31 @@ impl Layer {
             left,
             rows,
             columns,
+            below,
+            beside,
         } = *self;
-        [kind, field, inputs, outputs, height, width, side, stride, padding, peak, top, left, rows, columns]
+        [
+            kind, field, inputs, outputs, height, width, side, stride, padding, peak, top, left, rows, columns, below,
+            beside,
+        ]
     }
 
     /// E; below 1 where the full output has no row.
     pub fn full_rows(&self) -> i128 {
-        self.full(self.height)
+        self.full(self.height, self.below)
     }
 
     /// F; below 1 where the full output has no column.
     pub fn full_columns(&self) -> i128 {
-        self.full(self.width)
+        self.full(self.width, self.beside)
     }
 
-    fn full(&self, length: usize) -> i128 {
-        let [length, side, stride, padding] =
-            [length, self.side, self.stride, self.padding].map(|number| number as i128);
+    fn full(&self, length: usize, added: usize) -> i128 {
+        let [length, added, side, stride, padding] =
+            [length, added, self.side, self.stride, self.padding].map(|number| number as i128);
         match self.kind {
             CONV => (length + 2 * padding - side).div_euclid(stride) + 1,
-            _ => (length - 1) * stride + side - 2 * padding,
+            _ => (length - 1) * stride + side - 2 * padding + added,
         }
     }
 

@@ -52,9 +52,10 @@ fn split(row: &[i16], target: &mut [i16], zeros: usize, lines: usize) {
     }
 }
 
-/// How many map values before a place of TCONV's output its sum may reach.
+/// How many map values before a place of TCONV's output its sum may reach, and how many after the map's last the sums of the
+/// added places.
 fn edge(layer: &Layer) -> usize {
-    (layer.side - 1) / layer.stride
+    (layer.side - 1 + layer.below.max(layer.beside)) / layer.stride
 }
 
 /// Outputs so far apart meet the same weights: in TCONV those whose place plus P leaves the same remainder by S.

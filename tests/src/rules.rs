@@ -9,7 +9,7 @@ use crate::transform::{modulus, points};
 type Rule = (usize, fn(&Call) -> bool);
 
 /// The table. Rules are ordered by their place in it, not by their number.
-static RULES: [Rule; 17] = [
+static RULES: [Rule; 18] = [
     (1, |call| call.layer.kind == 0 || call.layer.kind == 1),
     (2, |call| call.layer.field == 4 || call.layer.field == 5),
     (3, |call| inside(1, 64, call.layer.inputs) && inside(1, 64, call.layer.outputs)),
@@ -17,6 +17,7 @@ static RULES: [Rule; 17] = [
     (5, |call| inside(1, 11, call.layer.side)),
     (6, |call| inside(1, 4, call.layer.stride)),
     (7, |call| call.layer.padding < call.layer.side),
+    (23, |call| adds(&call.layer, call.layer.below) && adds(&call.layer, call.layer.beside)),
     (8, |call| has_output(&call.layer)),
     (9, |call| has_crop(&call.layer)),
     (10, |call| call.map.len() as u128 == call.layer.map_length()),
@@ -35,6 +36,11 @@ fn inside(least: usize, most: usize, number: usize) -> bool {
 
 fn size(value: i16) -> u128 {
     u128::from(value.unsigned_abs())
+}
+
+/// Whether so many rows or columns may be added.
+fn adds(layer: &Layer, count: usize) -> bool {
+    count < layer.stride && (layer.kind != CONV || count == 0)
 }
 
 fn has_output(layer: &Layer) -> bool {

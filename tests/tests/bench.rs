@@ -324,7 +324,7 @@ const RANGES: [(usize, usize); 14] = [
 /// A header, and a map and kernel where the program gets as far as to read them.
 fn drawn_header(random: &mut Random) -> Vec<u8> {
     let layer = Layer::of(RANGES.map(|range| figure(random, range)));
-    let header = joined(&layer.numbers().map(|number| number.to_string()));
+    let header = joined(&layer.numbers()[..14].iter().map(usize::to_string).collect::<Vec<_>>());
     if plan_number(&layer) != 0 || !small(&layer) {
         return header;
     }

@@ -179,15 +179,9 @@ const NUMBERS: [usize; 16] = [
     usize::MAX,
 ];
 
-/// The layer with one of its fourteen numbers replaced, in every way.
+/// The layer with one of its sixteen numbers replaced, in every way.
 fn damaged(layer: Layer) -> impl Iterator<Item = Layer> {
-    (0..14).flat_map(move |place| {
-        NUMBERS.map(|number| {
-            let mut numbers = layer.numbers();
-            numbers[place] = number;
-            Layer::of(numbers)
-        })
-    })
+    (0..16).flat_map(move |place| NUMBERS.map(|number| layer.with(place, number)))
 }
 
 #[test]

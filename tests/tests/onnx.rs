@@ -1,6 +1,7 @@
-//! The node test cases of the ONNX operators Conv and ConvTranspose that fourteen numbers express: square kernels and
+//! The node test cases of the ONNX operators Conv and ConvTranspose that sixteen numbers express: square kernels and
 //! strides, equal padding, no groups, no bias, whole numbers. Maps count from 0 by rows and kernels are of ones, but in
-//! the last case.
+//! the last case. The node test cases with output_padding have strides that differ; the two here are the same map and
+//! kernel with one stride.
 
 use wemsteky_tests::example::Example;
 use wemsteky_tests::layer::{Layer, CONV, TCONV};
@@ -86,6 +87,38 @@ fn test_convtranspose_autopad_same() {
         3, 3, 7, 4, 9, 5,
         9, 9, 20, 11, 24, 13,
         6, 6, 13, 7, 15, 8,
+    ]);
+}
+
+/// strides 2, output_padding 1: S·2 + output_padding + 3 is 8. Nothing reaches the added row and column.
+#[rustfmt::skip]
+#[test]
+fn convtranspose_with_output_padding() {
+    let layer = Layer { below: 1, beside: 1, ..transposed(2) }.uncropped();
+    hold_ones("output_padding 1", layer, &[
+        0, 0, 1, 1, 3, 2, 2, 0,
+        0, 0, 1, 1, 3, 2, 2, 0,
+        3, 3, 8, 5, 12, 7, 7, 0,
+        3, 3, 7, 4, 9, 5, 5, 0,
+        9, 9, 20, 11, 24, 13, 13, 0,
+        6, 6, 13, 7, 15, 8, 8, 0,
+        6, 6, 13, 7, 15, 8, 8, 0,
+        0, 0, 0, 0, 0, 0, 0, 0,
+    ]);
+}
+
+/// strides 2, pads 1, output_padding 1: the pads cut one row and column at each end, and the added ones bring back the last.
+#[rustfmt::skip]
+#[test]
+fn convtranspose_with_pads_and_output_padding() {
+    let layer = Layer { padding: 1, below: 1, beside: 1, ..transposed(2) }.uncropped();
+    hold_ones("pads 1, output_padding 1", layer, &[
+        0, 1, 1, 3, 2, 2,
+        3, 8, 5, 12, 7, 7,
+        3, 7, 4, 9, 5, 5,
+        9, 20, 11, 24, 13, 13,
+        6, 13, 7, 15, 8, 8,
+        6, 13, 7, 15, 8, 8,
     ]);
 }
 

@@ -12,7 +12,7 @@ use wemsteky_tests::{checked, draw};
 /// Pairs in each test.
 const PAIRS: usize = 1_000;
 
-/// A CONV layer whose stride divides and the TCONV layer that takes its output's shape, both not cropped.
+/// A CONV layer and the TCONV layer that takes its output's shape and adds what the stride leaves, both not cropped.
 fn paired_layers(random: &mut Random, same_field: bool) -> (Layer, Layer) {
     let field = random.between(4, 5);
     let side = random.between(1, 11);
@@ -29,6 +29,7 @@ fn paired_layers(random: &mut Random, same_field: bool) -> (Layer, Layer) {
         peak: 1,
         ..Layer::default()
     };
+    (tconv.below, tconv.beside) = (random.below(tconv.stride), random.below(tconv.stride));
     draw::lengthen(&mut tconv);
     let tconv = tconv.uncropped();
     let conv = Layer {
@@ -38,10 +39,14 @@ fn paired_layers(random: &mut Random, same_field: bool) -> (Layer, Layer) {
         outputs: tconv.inputs,
         height: tconv.rows,
         width: tconv.columns,
+        below: 0,
+        beside: 0,
         ..tconv
     };
     let conv = conv.uncropped();
     assert_eq!((conv.rows, conv.columns), (tconv.height, tconv.width), "{conv:?}");
+    let left = |length: usize| (length + 2 * conv.padding - conv.side) % conv.stride;
+    assert_eq!((left(conv.height), left(conv.width)), (tconv.below, tconv.beside), "{conv:?}");
     (conv, tconv)
 }
 
@@ -94,22 +99,29 @@ fn product_sum(outputs: &[i32], map: &[i16]) -> i128 {
     outputs.iter().zip(map).map(|(&output, &value)| i128::from(output) * i128::from(value)).sum()
 }
 
-/// The sum on both sides, and whether the transposed call is one that only its groups' loads let in.
-fn agreed_sum(random: &mut Random, same_field: bool) -> (i128, bool) {
+/// The sum on both sides, whether the transposed call is one that only its groups' loads let in, and whether it adds rows
+/// or columns.
+fn agreed_sum(random: &mut Random, same_field: bool) -> (i128, bool, bool) {
     let (conv, tconv) = breakable_pair(random, same_field);
     let kernel = shared_kernel(random, &conv, &tconv);
     let (conv, tconv) = (draw_call(random, conv, &kernel), draw_call(random, tconv, &kernel));
     let (u, v) = (outputs(random, &conv), outputs(random, &tconv));
     let (left, right) = (product_sum(&u, &tconv.map), product_sum(&v, &conv.map));
     assert_eq!(left, right, "{:?} and {:?}", conv.layer, tconv.layer);
-    (left, formerly_refused(&tconv))
+    (left, formerly_refused(&tconv), tconv.layer.below + tconv.layer.beside > 0)
 }
 
 fn sums_agree(test: &'static str, same_field: bool) {
     let sums: Vec<_> = (0..PAIRS).map(|trial| agreed_sum(&mut Random::new(test, trial), same_field)).collect();
-    let count = sums.iter().filter(|(sum, _)| *sum != 0).count();
-    let by_groups = sums.iter().filter(|(_, by_groups)| *by_groups).count();
+    let count = sums.iter().filter(|(sum, ..)| *sum != 0).count();
+    let by_groups = sums.iter().filter(|(_, by_groups, _)| *by_groups).count();
+    let not_dividing = sums.iter().filter(|(.., added)| *added).count();
     assert!(count > PAIRS / 2, "{count} sums are not 0, seed {}", seed());
+    assert!(
+        not_dividing > PAIRS / 4 && not_dividing < PAIRS,
+        "{not_dividing} strides leave something, seed {}",
+        seed()
+    );
     assert!(by_groups > PAIRS / 10, "{by_groups} kernels are let in by their groups, seed {}", seed());
 }
 

@@ -41,7 +41,7 @@ fn each_damage_is_answered_by_its_number() {
         }
         assert_eq!(number(&call, &mut buffers), 0, "{:?}", call.layer);
     }
-    assert!((1..=17).all(|rule| damages.iter().any(|damage| damage.rule == rule)));
+    assert!((1..=17).chain([23]).all(|rule| damages.iter().any(|damage| damage.rule == rule)));
 }
 
 #[test]
@@ -72,8 +72,8 @@ fn any_number(random: &mut Random, (least, most): (usize, usize)) -> usize {
 }
 
 #[test]
-fn any_fourteen_numbers_are_answered_by_the_rules() {
-    let mut seen = [0; 10];
+fn any_sixteen_numbers_are_answered_by_the_rules() {
+    let mut seen = [0; 24];
     let mut random = Random::new("refusals, any numbers", 0);
     for _ in 0..300_000 {
         let (channels, map) = ((1, 64), (1, random.pick(&[4, 30, 512])));
@@ -82,9 +82,11 @@ fn any_fourteen_numbers_are_answered_by_the_rules() {
         let shape =
             [(0, 1), (4, 5), channels, channels, map, map, side, stride, padding, peak, first, first, kept, kept];
         let layer = Layer::of(shape.map(|range| any_number(&mut random, range)));
-        seen[checked::plan(&layer)] += 1;
+        let most_added = if layer.kind == TCONV { 2 } else { 0 };
+        let [below, beside] = [(0, most_added); 2].map(|range| any_number(&mut random, range));
+        seen[checked::plan(&Layer { below, beside, ..layer })] += 1;
     }
-    assert!(seen.iter().all(|&count| count > 1_000), "{seen:?}");
+    assert!((0..=9).chain([23]).all(|number| seen[number] > 1_000), "{seen:?}");
 }
 
 /// Every number at its least and at its greatest, and an index equal to the total.
@@ -92,7 +94,8 @@ fn any_fourteen_numbers_are_answered_by_the_rules() {
 fn numbers_at_both_ends_are_accepted() {
     for (kind, field) in [(0, 4), (0, 5), (1, 4), (1, 5)] {
         let least = Layer::of([kind, field, 1, 1, 1, 1, 1, 1, 0, 1, 0, 0, 1, 1]);
-        let most = Layer::of([kind, field, 64, 64, 512, 512, 11, 4, 10, 32_767, 0, 0, 0, 0]).uncropped();
+        let most = Layer::of([kind, field, 64, 64, 512, 512, 11, 4, 10, 32_767, 0, 0, 0, 0]);
+        let most = Layer { below: 3 * kind, beside: 3 * kind, ..most }.uncropped();
         assert_eq!((checked::plan(&least), checked::plan(&most)), (0, 0));
         let mut random = Random::new("refusals, both ends", kind + 2 * (field - 4));
         let call = draw::call(&mut random, least);

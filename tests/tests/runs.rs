@@ -1,26 +1,14 @@
 //! Whole runs of drawn layers: every output is its direct sum, every tile is counted, scratch is left as the request
 //! says.
 
-use wemsteky_tests::call::Call;
-use wemsteky_tests::direct::direct_sums;
+use wemsteky_tests::checked::whole_run;
 use wemsteky_tests::layer::{Layer, CONV, TCONV};
 use wemsteky_tests::random::{seed, Random};
 use wemsteky_tests::rules::{load, load_limit};
-use wemsteky_tests::{checked, draw, for_kinds_and_fields};
+use wemsteky_tests::{draw, for_kinds_and_fields};
 
 /// Layers for each window of a kind and field.
 const LAYERS: usize = 8;
-
-/// Runs a call and holds its whole output to the direct sums, which are returned.
-fn run(random: &mut Random, call: &Call) -> Vec<i64> {
-    let mut buffers = draw::buffers(random, call);
-    let sums = direct_sums(&call.layer, &call.map, &call.kernel);
-    assert_eq!(checked::plan(&call.layer), 0, "plan of {:?}", call.layer);
-    let answer = checked::run(call, &mut buffers, Some(&sums));
-    assert_eq!((answer.number, answer.done), (0, 1), "run of {:?}", call.layer);
-    assert!(buffers.output.words().iter().map(|&word| i64::from(word)).eq(sums.iter().copied()), "{:?}", call.layer);
-    sums
-}
 
 /// Every K, P and S.
 fn windows() -> impl Iterator<Item = (usize, usize, usize)> {
@@ -35,7 +23,7 @@ fn every_window(test: &'static str, kind: usize, field: usize) {
             let given = Layer { kind, field, side, stride, padding, ..Layer::default() };
             let layer = draw::layer(&mut random, given, 3, 90);
             let call = draw::call(&mut random, layer);
-            run(&mut random, &call);
+            whole_run(&mut random, &call);
         }
     }
 }
@@ -55,7 +43,7 @@ fn large_maps(test: &'static str, kind: usize) {
         };
         let layer = Layer { height, width, ..any }.uncropped();
         let call = draw::call(&mut random, layer);
-        run(&mut random, &call);
+        whole_run(&mut random, &call);
     }
 }
 
@@ -77,7 +65,7 @@ fn many_channels() {
         let any = draw::any_layer(&mut random, trial % 2, 4 + trial / 2 % 2, 64, 12);
         let (inputs, outputs) = if trial < 4 { (64, 64) } else { (any.inputs, any.outputs) };
         let call = draw::call(&mut random, Layer { inputs, outputs, ..any });
-        run(&mut random, &call);
+        whole_run(&mut random, &call);
     }
 }
 
@@ -93,7 +81,7 @@ fn at_the_limit(random: &mut Random, kind: usize, field: usize, peak: usize) -> 
     call.map.fill(value);
     call.kernel = weights.map(|weight| if weight > 0 { -weight } else { weight }).collect();
     assert_eq!(load(&call, 0), (total * peak) as u128, "load of {:?}", call.layer);
-    let sums = run(random, &call);
+    let sums = whole_run(random, &call);
     let reached = sums.iter().copied().max_by_key(|sum| sum.abs()).unwrap();
     assert_eq!(reached.unsigned_abs() as u128, load(&call, 0), "greatest output of {:?}", call.layer);
     reached

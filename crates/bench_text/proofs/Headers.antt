@@ -9,12 +9,10 @@ use lib.ListN.{length, take, drop}
 use lib.Seq.{take-all}
 use Rattle.base.specs.RulesLaws.{outcome-lent}
 use Rattle.layer.specs.declared.shape.Layer.{Layer}
-use Rattle.layer.specs.Numbers.{layerOf}
 use Rattle.checks.specs.Engine.{tileEngine}
 use Rattle.checks.specs.Checks.{planCode}
-use Rattle.words.specs.Words.{figuresOf}
 use Rattle.lines.specs.Lines.{refusedWord, numbered, unreadable}
-use Rattle.bench_text.specs.Printed.{small, isLong, inputWords, headerReads, bodyPrinted, printed}
+use Rattle.bench_text.specs.Printed.{small, isLong, inputWords, headerReads, headerLayer, bodyPrinted, printed}
 
 -- the first bytes, at most n
 pub take-min : (n : ℕ) (xs : List ℕ) → take (min (length xs) n) xs ≡ take n xs
@@ -29,24 +27,24 @@ long-body : (l : Layer) (long : Bool) (body : List (List ℕ)) → long ≡ true
 long-body l long body e = rw (e, and-false (small l))
 
 module _ (input : List ℕ) where
-  abbrev pub headerLayer : Layer
-  headerLayer = layerOf (figuresOf (take 14 (inputWords input)))
+  abbrev layer : Layer
+  layer = headerLayer (inputWords input)
 
   pub header-unread : headerReads (inputWords input) ≡ false → printed input ≡ unreadable
   unfolding printed
   header-unread e = rw e
 
   module _ (e : headerReads (inputWords input) ≡ true) where
-    pub layer-refused : (planCode tileEngine headerLayer ≡ 0 → ⊥) → printed input ≡ numbered refusedWord (planCode tileEngine headerLayer)
+    pub layer-refused : (planCode tileEngine layer ≡ 0 → ⊥) → printed input ≡ numbered refusedWord (planCode tileEngine layer)
     unfolding printed
-    layer-refused broken = rw e (outcome-lent _ _ (planCode tileEngine headerLayer) broken)
+    layer-refused broken = rw e (outcome-lent _ _ (planCode tileEngine layer) broken)
 
-    module _ (f : planCode tileEngine headerLayer ≡ 0) where
+    module _ (f : planCode tileEngine layer ≡ 0) where
       pub long-unread : isLong input ≡ true → printed input ≡ unreadable
       unfolding printed
-      long-unread long = rw (e, f) (long-body headerLayer (isLong input) (drop 14 (inputWords input)) long)
+      long-unread long = rw (e, f) (long-body layer (isLong input) (drop 14 (inputWords input)) long)
 
-      pub body-follows : {l : Layer} {body : List (List ℕ)} → l ≡ headerLayer → body ≡ drop 14 (inputWords input) → isLong input ≡ false
+      pub body-follows : {l : Layer} {body : List (List ℕ)} → l ≡ layer → body ≡ drop 14 (inputWords input) → isLong input ≡ false
           → bodyPrinted l false body ≡ printed input
       unfolding printed
       body-follows same rest short = rw (same, rest, e, f, short)

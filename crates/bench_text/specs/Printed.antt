@@ -1,6 +1,6 @@
 -- 01, "The bench program": what it prints, for every input.
 use mathlib.Core.Bool.{Bool, _&&_, not, cond}
-use mathlib.Core.List.{List, _++_}
+use mathlib.Core.List.{List, [], _∷_, _++_}
 use Prim.Native.Nat.{ℕ, _+_}
 use lib.Dec.{leb, ltb, eqb}
 use lib.IntN.{ℤ}
@@ -55,6 +55,10 @@ inputWords input = wordsOf (isLong input) (take 16384 input)
 abbrev pub headerReads : List (List ℕ) → Bool
 headerReads words = leb 14 (length words) && everyWord isFigure (take 14 words)
 
+-- the layer of a header: its fourteen numbers, and no rows or columns added
+abbrev pub headerLayer : List (List ℕ) → Layer
+headerLayer words = layerOf (figuresOf (take 14 words) ++ (0 ∷ 0 ∷ []))
+
 -- after a header that the checks 1 to 9 accept
 abbrev pub bodyPrinted : Layer → (long : Bool) → (body : List (List ℕ)) → List ℕ
 bodyPrinted l long body = cond (small l && not long && bodyReads l body) (ran l (mapOf l body) (kernelOf l body)) unreadable
@@ -66,4 +70,4 @@ layerPrinted l long body = outcome (planCode tileEngine l) (bodyPrinted l long b
 unfoldable pub printed : List ℕ → List ℕ
 printed input =
     let words = inputWords input in
-    cond (headerReads words) (layerPrinted (layerOf (figuresOf (take 14 words))) (isLong input) (drop 14 words)) unreadable
+    cond (headerReads words) (layerPrinted (headerLayer words) (isLong input) (drop 14 words)) unreadable

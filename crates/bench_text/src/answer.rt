@@ -127,8 +127,8 @@ pub fn answer(lines: &mut [u8; 16384], input: &[u8]) -> usize
     let long = input.len() > 16384;
     let end = lesser(input.len(), 16384);
     let text = &input[0..end];
-    let mut numbers = [0; 14];
-    let header = words::read_header(text, long, &mut numbers);
+    let mut numbers = [0; 16];
+    let header = words::read_figures(text, long, &mut numbers[..14]);
     if !header.valid {
         return lines::put_unreadable(lines, 0);
     }

@@ -34,6 +34,8 @@ fn whole(
         left: 0,
         rows: rows,
         columns: columns,
+        below: 0,
+        beside: 0,
     }
 }
 

@@ -71,6 +71,8 @@ fn conv() {
         left: 3,
         rows: 2,
         columns: 8,
+        below: 0,
+        beside: 0,
     };
     let mut map = [0i16; 3120];
     let mut kernel = [0i16; 484];
@@ -97,6 +99,8 @@ fn tconv() {
         left: 5,
         rows: 1,
         columns: 70,
+        below: 0,
+        beside: 0,
     };
     let mut map = [0i16; 240];
     let mut kernel = [0i16; 100];

@@ -86,10 +86,12 @@ whole kind field height width side stride padding peak = record {
   left = 0;
   rows = full height;
   columns = full width;
+  below = 0;
+  beside = 0;
 }
   where
     full : ℕ → ℕ
-    full size = cond (eqb kind 0) (convSize size side stride padding) (tconvSize size side stride padding)
+    full size = cond (eqb kind 0) (convSize size side stride padding) (tconvSize size side stride padding 0)
 
 abbrev pub CONV : (field height width side stride padding peak : ℕ) → Layer
 CONV = whole 0
@@ -165,6 +167,8 @@ cropped l top left rows columns = record {
   left = left;
   rows = rows;
   columns = columns;
+  below = l .below;
+  beside = l .beside;
 }
 
 -- the layer from so many map channels to so many output channels
@@ -184,6 +188,8 @@ channels inputs outputs l = record {
   left = l .left;
   rows = l .rows;
   columns = l .columns;
+  below = l .below;
+  beside = l .beside;
 }
 
 -- two channels to two, 2 by 2, K 1

@@ -8,7 +8,7 @@ use Rattle.layer.specs.declared.shape.Layer.{Layer}
 use Rattle.layer.specs.declared.shape.Plan.{Plan}
 use Rattle.layer.specs.Shape.{fullHeight, fullWidth}
 use Rattle.checks.specs.Engine.{Engine}
-use Rattle.checks.specs.Rules.{kindRule, fieldRule, channelsRule, mapRule, sideRule, strideRule, paddingRule, outputRule, cropRule, mapLengthRule, kernelLengthRule, outputLengthRule, scratchRule, peakRule, valuesRule, loadsRule, indexRule}
+use Rattle.checks.specs.Rules.{kindRule, fieldRule, channelsRule, mapRule, sideRule, strideRule, paddingRule, addedRule, outputRule, cropRule, mapLengthRule, kernelLengthRule, outputLengthRule, scratchRule, peakRule, valuesRule, loadsRule, indexRule}
 
 -- ---- lists of rules
 
@@ -16,11 +16,11 @@ use Rattle.checks.specs.Rules.{kindRule, fieldRule, channelsRule, mapRul
 abbrev pub mapRules : (last : ℕ) → Layer → List Rule
 mapRules last l = kindRule l ∷ fieldRule l last ∷ channelsRule l ∷ mapRule l ∷ []
 
--- 5 to 7: the kernel, its stride and its padding
+-- 5 to 7 and 23: the kernel, its stride and its padding, and what is added
 abbrev pub kernelRules : Layer → List Rule
-kernelRules l = sideRule l ∷ strideRule l ∷ paddingRule l ∷ []
+kernelRules l = sideRule l ∷ strideRule l ∷ paddingRule l ∷ addedRule l ∷ []
 
--- 1 to 7
+-- 1 to 7 and 23
 abbrev pub shapeRules : (last : ℕ) → Layer → List Rule
 shapeRules last l = mapRules last l ++ kernelRules l
 
@@ -48,7 +48,7 @@ jobRules total next = indexRule total next ∷ []
 -- ---- the answers
 
 module _ (engine : Engine) where
-  -- the planner makes 1 to 9, a run 1 to 16, a job 1 to 17
+  -- the planner makes 1 to 9 with 23 after 7, a run goes on to 16, a job to 17
   unfoldable pub planCode : Layer → ℕ
   planCode l = firstBroken (shapeRules (engine .last-field) l ++ outputRules l)
 

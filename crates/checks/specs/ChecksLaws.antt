@@ -9,21 +9,22 @@ use borrow.Author.Tests.{leb-true, ltb-true, le-leb, eqb-true}
 use Rattle.algebra.specs.EveryLaws.{both-true}
 use Rattle.base.specs.Rules.{Rule, rule, firstBroken, inside}
 use Rattle.base.specs.RulesLaws.{none-broken, inside-low, inside-high, both-accept}
-use Rattle.layer.specs.PlannedLaws.{height-extent, width-extent, full-high, crop-low, crop-end}
-use Rattle.layer.specs.Planned.{hasOutput, cropFits, InRange, Planned}
+use Rattle.layer.specs.PlannedLaws.{added-high, height-extent, width-extent, full-high, crop-low, crop-end}
+use Rattle.layer.specs.Planned.{addedFits, hasOutput, cropFits, InRange, Planned}
 use Rattle.layer.specs.declared.shape.Layer.{Layer}
 use Rattle.layer.specs.Shape.{fullHeight, fullWidth}
 use Rattle.checks.specs.Callable.{Callable}
 use Rattle.checks.specs.Engine.{Engine, Lawful}
 use Rattle.checks.specs.Checks.{shapeRules, outputRules, callRules, jobRules, planCode, runCode, jobCode, figures, planOf}
 
--- ---- rules 1 to 7
+-- ---- rules 1 to 7 and 23
 
 pub in-range : (last : ℕ) → last ≤ 5 → (l : Layer) → firstBroken (shapeRules last l) ≡ 0 → InRange l
 in-range last known l e =
-    let (kind, (field, (channels, (map, (side, (stride, (padding, _))))))) = none-broken (shapeRules last l) tt e in
+    let (kind, (field, (channels, (map, (side, (stride, (padding, (added, _)))))))) = none-broken (shapeRules last l) tt e in
     let (inputs, outputs) = both-true (inside 1 64 (l .inputs)) (inside 1 64 (l .outputs)) channels in
     let (height, width) = both-true (inside 1 512 (l .height)) (inside 1 512 (l .width)) map in
+    let (below, beside) = both-true (addedFits l (l .below)) (addedFits l (l .beside)) added in
     record {
       kind-high = inside-high 0 1 (l .kind) kind;
       field-low = inside-low 4 last (l .field) field;
@@ -41,6 +42,8 @@ in-range last known l e =
       stride-low = inside-low 1 4 (l .stride) stride;
       stride-high = inside-high 1 4 (l .stride) stride;
       padding-high = ltb-true (l .padding) (l .side) padding;
+      below-high = added-high l (l .below) below;
+      beside-high = added-high l (l .beside) beside;
     }
 
 -- ---- rules 8 and 9
@@ -50,7 +53,7 @@ unfolding planCode
 planned {engine} lawful l e =
     let (shape, output) = both-accept (shapeRules (engine .last-field) l) (outputRules l) tt e in
     let (outputs, (crop, _)) = none-broken (outputRules l) tt output in
-    let (height, width) = both-true (hasOutput l (l .height)) (hasOutput l (l .width)) outputs in
+    let (height, width) = both-true (hasOutput l (l .height) (l .below)) (hasOutput l (l .width) (l .beside)) outputs in
     let (rows, columns) = both-true (cropFits (l .top) (l .rows) (fullHeight l)) (cropFits (l .left) (l .columns) (fullWidth l)) crop in
     let r = in-range (engine .last-field) (lawful .known) l shape in
     record {
@@ -61,8 +64,8 @@ planned {engine} lawful l e =
       rows-end = crop-end (l .top) (l .rows) (fullHeight l) rows;
       columns-low = crop-low (l .left) (l .columns) (fullWidth l) columns;
       columns-end = crop-end (l .left) (l .columns) (fullWidth l) columns;
-      full-height-high = full-high l (l .height) (height-extent l r);
-      full-width-high = full-high l (l .width) (width-extent l r);
+      full-height-high = full-high l (l .height) (l .below) (height-extent l r);
+      full-width-high = full-high l (l .width) (l .beside) (width-extent l r);
     }
 
 -- ---- rules 10 to 17

@@ -1,4 +1,4 @@
--- 01, "Returned by number": the rules 1 to 17, one definition each. A rule holds where its number is not returned. The lists of the rules that a
+-- 01, "Returned by number", and 02, E7: the rules 1 to 17 and 23, one definition each. A rule holds where its number is not returned. The lists of the rules that a
 -- plan, a run and a job are checked by are in `Checks`.
 use mathlib.Core.Bool.{_&&_}
 use mathlib.Core.List.{List}
@@ -9,7 +9,7 @@ use lib.ListN.{length}
 use Rattle.base.specs.Rules.{Rule, rule, inside}
 use Rattle.layer.specs.declared.shape.Layer.{Layer}
 use Rattle.layer.specs.Shape.{mapCount, kernelCount, outputCount, fullHeight, fullWidth}
-use Rattle.layer.specs.Planned.{hasOutput, cropFits}
+use Rattle.layer.specs.Planned.{addedFits, hasOutput, cropFits}
 use Rattle.load.specs.Load.{loadsFit, withinPeak}
 
 module _ (l : Layer) where
@@ -41,9 +41,13 @@ module _ (l : Layer) where
   abbrev pub paddingRule : Rule
   paddingRule = rule 7 (ltb (l .padding) (l .side))
 
+  -- 23: the rows and the columns that are added are 0 in CONV, and below S
+  abbrev pub addedRule : Rule
+  addedRule = rule 23 (addedFits l (l .below) && addedFits l (l .beside))
+
   -- 8: in CONV, H + 2P and W + 2P are not below K; in TCONV, E and F are not below 1
   abbrev pub outputRule : Rule
-  outputRule = rule 8 (hasOutput l (l .height) && hasOutput l (l .width))
+  outputRule = rule 8 (hasOutput l (l .height) (l .below) && hasOutput l (l .width) (l .beside))
 
   -- 9: the crop keeps some rows and columns, and lies in the full output
   abbrev pub cropRule : Rule

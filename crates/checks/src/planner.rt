@@ -1,11 +1,11 @@
-// The planner: the rules 1 to 9 in table order, and the figures of a layer that breaks none. It takes any fourteen numbers.
+// The planner: the rules 1 to 9 in table order, 23 after 7, and the figures of a layer that breaks none. It takes any sixteen numbers.
 use base::rules;
 use layer::shape::Layer;
 use layer::shape::Plan;
 use layer::sizes;
 ghost use mathlib.Core.Path.{_≡_};
 ghost use Rattle.base.specs.Rules.{firstBroken};
-ghost use Rattle.layer.specs.Planned.{hasOutput, cropFits, InRange, ExtentInRange};
+ghost use Rattle.layer.specs.Planned.{addedFits, hasOutput, cropFits, InRange, ExtentInRange};
 ghost use Rattle.checks.specs.Engine.{tileEngine};
 ghost use Rattle.checks.specs.Checks.{mapRules, kernelRules, outputRules, planCode, planOf};
 
@@ -21,24 +21,39 @@ fn map_code(layer: Layer) -> usize
     rules::next(code, 4, map)
 }
 
-// The first of the rules 5 to 7 that is broken, or 0.
+// Whether rule 23 holds of the rows or columns that are added.
+fn added_fits(layer: Layer, added: usize) -> bool
+    ensures { λ r. ⌜ r ≡ addedFits layer added ⌝ }
+{
+    if layer.kind == 0 {
+        return (added == 0) & (added < layer.stride);
+    }
+    added < layer.stride
+}
+
+// The first of the rules 5 to 7 and 23 that is broken, or 0.
 fn kernel_code(layer: Layer) -> usize
     ensures { λ r. ⌜ r ≡ firstBroken (kernelRules layer) ⌝ }
 {
     let code = rules::next(0, 5, rules::is_inside(1, 11, layer.side));
     let code = rules::next(code, 6, rules::is_inside(1, 4, layer.stride));
-    rules::next(code, 7, layer.padding < layer.side)
+    let code = rules::next(code, 7, layer.padding < layer.side);
+    rules::next(
+        code,
+        23,
+        added_fits(layer, layer.below) & added_fits(layer, layer.beside),
+    )
 }
 
-// Whether rule 8 holds of the map's height or width.
-fn has_output(layer: Layer, extent: usize) -> bool
-    requires { ⌜ ExtentInRange layer extent ⌝ }
-    ensures { λ r. ⌜ r ≡ hasOutput layer extent ⌝ }
+// Whether rule 8 holds of the map's height or width and what is added. The sum is taken before the difference, which may be below 0.
+fn has_output(layer: Layer, extent: usize, added: usize) -> bool
+    requires { ⌜ ExtentInRange layer extent added ⌝ }
+    ensures { λ r. ⌜ r ≡ hasOutput layer extent added ⌝ }
 {
     if layer.kind == 0 {
         return layer.side <= extent + 2 * layer.padding;
     }
-    2 * layer.padding < (extent - 1) * layer.stride + layer.side
+    2 * layer.padding < (extent - 1) * layer.stride + layer.side + added
 }
 
 // Whether rule 9 holds of the rows or columns. The sum may not fit a word, so it is not taken.
@@ -59,19 +74,20 @@ fn output_code(layer: Layer) -> usize
     requires { ⌜ InRange layer ⌝ }
     ensures { λ r. ⌜ r ≡ firstBroken (outputRules layer) ⌝ }
 {
-    let outputs = has_output(layer, layer.height) & has_output(layer, layer.width);
-    let code = rules::next(0, 8, outputs);
+    let rows = has_output(layer, layer.height, layer.below);
+    let columns = has_output(layer, layer.width, layer.beside);
+    let code = rules::next(0, 8, rows & columns);
     if code != 0 {
         return code;
     }
-    let height = sizes::full_size(layer, layer.height);
-    let width = sizes::full_size(layer, layer.width);
+    let height = sizes::full_size(layer, layer.height, layer.below);
+    let width = sizes::full_size(layer, layer.width, layer.beside);
     let rows = crop_fits(layer.top, layer.rows, height);
     let columns = crop_fits(layer.left, layer.columns, width);
     rules::next(0, 9, rows & columns)
 }
 
-// The first of the rules 1 to 9 that is broken, or 0.
+// The first of the rules 1 to 9 and 23 that is broken, or 0.
 pub fn plan_code(layer: Layer) -> usize
     ensures { λ r. ⌜ r ≡ planCode tileEngine layer ⌝ }
 {
@@ -82,7 +98,7 @@ pub fn plan_code(layer: Layer) -> usize
     output_code(layer)
 }
 
-// The answer to the rules 1 to 9, with E, F, the tile total and 3N²; these are 0 where the layer is refused.
+// The answer to the rules 1 to 9 and 23, with E, F, the tile total and 3N²; these are 0 where the layer is refused.
 pub fn plan(layer: Layer) -> Plan
     ensures { λ r. ⌜ r ≡ planOf tileEngine layer ⌝ }
 {
@@ -98,8 +114,8 @@ pub fn plan(layer: Layer) -> Plan
     }
     Plan {
         code: 0,
-        height: sizes::full_size(layer, layer.height),
-        width: sizes::full_size(layer, layer.width),
+        height: sizes::full_size(layer, layer.height, layer.below),
+        width: sizes::full_size(layer, layer.width, layer.beside),
         tiles: sizes::tile_total(layer),
         scratch: sizes::scratch_words(layer),
     }

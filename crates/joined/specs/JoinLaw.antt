@@ -24,13 +24,13 @@ module _ (l : Layer) (filter : Filter l) where
       → fullAt l map kernel m i j ≡ conv (l .inputs) (l .height) (l .width) (l .side) 1 0 map kernel m i j
   filter-conv map kernel m i j = full-conv l map kernel m i j (filter .conv-kind) ∙ rw (filter .stride-one, filter .unpadded)
 
-  filter-size : (size : ℕ) → fullSize l size ≡ convSize size (l .side) 1 0
-  filter-size size = rw (eq-eqb (l .kind) 0 (filter .conv-kind), filter .stride-one, filter .unpadded)
+  filter-size : (size added : ℕ) → fullSize l size added ≡ convSize size (l .side) 1 0
+  filter-size size added = rw (eq-eqb (l .kind) 0 (filter .conv-kind), filter .stride-one, filter .unpadded)
 
   -- E is H − K + 1
-  filter-count : (size : ℕ) → l .side ≤ size → fullSize l size ≡ size - l .side + 1
+  filter-count : (size added : ℕ) → l .side ≤ size → fullSize l size added ≡ size - l .side + 1
   unfolding convSize
-  filter-count size fits = filter-size size ∙ omega arith
+  filter-count size added fits = filter-size size added ∙ omega arith
 
 -- ---- two filters
 
@@ -43,27 +43,27 @@ module _ {first second : Layer} (pair : Pair first second) where
     side-low = omega (arith, pair .first-filter .side-low, pair .second-filter .side-low);
   }
 
-  module _ {size middle : ℕ} (along : Along first second size middle) where
+  module _ {size added middle : ℕ} (along : Along first second size added middle) where
     middle-count : middle ≡ size - first .side + 1
-    middle-count = along .is ∙ filter-count first (pair .first-filter) size (along .first-fits)
+    middle-count = along .is ∙ filter-count first (pair .first-filter) size added (along .first-fits)
 
-    outputs-count : fullSize second middle ≡ middle - second .side + 1
-    outputs-count = filter-count second (pair .second-filter) middle (along .second-fits)
+    outputs-count : (more : ℕ) → fullSize second middle more ≡ middle - second .side + 1
+    outputs-count more = filter-count second (pair .second-filter) middle more (along .second-fits)
 
     joined-fits : first .side + second .side - 1 ≤ size
     joined-fits = omega (arith, middle-count, along .first-fits, along .second-fits)
 
-    same-size : fullSize (joinedLayer first second) size ≡ fullSize second middle
-    same-size =
-        filter-count (joinedLayer first second) joined-filter size joined-fits
-        ∙ omega (arith, middle-count, outputs-count, along .first-fits, along .second-fits, pair .second-filter .side-low)
+    same-size : (more : ℕ) → fullSize (joinedLayer first second) size added ≡ fullSize second middle more
+    same-size more =
+        filter-count (joinedLayer first second) joined-filter size added joined-fits
+        ∙ omega (arith, middle-count, outputs-count more, along .first-fits, along .second-fits, pair .second-filter .side-low)
 
-    some-outputs : 0 < fullSize second middle
-    some-outputs = omega (arith, outputs-count)
+    some-outputs : (more : ℕ) → 0 < fullSize second middle more
+    some-outputs more = omega (arith, outputs-count more)
 
-    window-inside : (e : ℕ) → e < fullSize second middle → e + (first .side + second .side - 1) ≤ size
-    window-inside e inside =
-        omega (arith, middle-count, outputs-count, along .first-fits, along .second-fits, pair .second-filter .side-low)
+    window-inside : (more e : ℕ) → e < fullSize second middle more → e + (first .side + second .side - 1) ≤ size
+    window-inside more e inside =
+        omega (arith, middle-count, outputs-count more, along .first-fits, along .second-fits, pair .second-filter .side-low)
 
   module _ (follows : Follows first second) (map firstKernel secondKernel : List ℤ) where
     abbrev middle : List ℤ
@@ -81,15 +81,15 @@ module _ {first second : Layer} (pair : Pair first second) where
 
     middle-is : middle ≡ convolved
     middle-is =
-        rw (filter-size first (pair .first-filter) (first .height), filter-size first (pair .first-filter) (first .width))
+        rw (filter-size first (pair .first-filter) (first .height) (first .below), filter-size first (pair .first-filter) (first .width) (first .beside))
         (table-same _ (λ p l. filter-conv first (pair .first-filter) map firstKernel _ _ _))
 
     second-over-middle : (m e f : ℕ) → fullAt second middle secondKernel m e f
         ≡ conv (first .outputs) (convSize (first .height) (first .side) 1 0) (convSize (first .width) (first .side) 1 0) (second .side) 1 0
         convolved secondKernel m e f
     second-over-middle m e f =
-        let down = follows .down .is ∙ filter-size first (pair .first-filter) (first .height) in
-        let across = follows .across .is ∙ filter-size first (pair .first-filter) (first .width) in
+        let down = follows .down .is ∙ filter-size first (pair .first-filter) (first .height) (first .below) in
+        let across = follows .across .is ∙ filter-size first (pair .first-filter) (first .width) (first .beside) in
         filter-conv second (pair .second-filter) middle secondKernel m e f ∙ rw (← (pair .channels), down, across, middle-is)
 
     -- one output
@@ -100,12 +100,12 @@ module _ {first second : Layer} (pair : Pair first second) where
         filter-conv (joinedLayer first second) joined-filter map _ m e f
         ∙ conv-joined (first .side) (second .side) (first .inputs) (first .outputs) (second .outputs) (first .height) (first .width)
         map firstKernel secondKernel (pair .first-filter .side-low) (pair .second-filter .side-low) m e f channel
-        (window-inside (follows .down) e row) (window-inside (follows .across) f column)
+        (window-inside (follows .down) (second .below) e row) (window-inside (follows .across) (second .beside) f column)
         ∙ sym (second-over-middle m e f)
 
     -- all of them
     pub join-law : fullOutput (joinedLayer first second) map joined ≡ fullOutput second middle secondKernel
     join-law =
-        rw (same-size (follows .down), same-size (follows .across))
+        rw (same-size (follows .down) (second .below), same-size (follows .across) (second .beside))
         (stacked-same (second .outputs) (fullHeight second) (fullWidth second)
-        (some-outputs (follows .down)) (some-outputs (follows .across)) join-output)
+        (some-outputs (follows .down) (second .below)) (some-outputs (follows .across) (second .beside)) join-output)

@@ -39,11 +39,11 @@ pub record Joinable (first : Layer) (firstWeights : ℕ) (second : Layer) (secon
   pub channels : first .outputs ≡ second .inputs
 
 -- along one side: the second's map is as long as the first's full output, and each kernel fits in its map, as rule 8 asks
-pub record Along (first second : Layer) (size middle : ℕ) : Type 0 where
-  pub is : middle ≡ fullSize first size
+pub record Along (first second : Layer) (size added middle : ℕ) : Type 0 where
+  pub is : middle ≡ fullSize first size added
   pub first-fits : first .side ≤ size
   pub second-fits : second .side ≤ middle
 
 pub record Follows (first second : Layer) : Type 0 where
-  pub down : Along first second (first .height) (second .height)
-  pub across : Along first second (first .width) (second .width)
+  pub down : Along first second (first .height) (first .below) (second .height)
+  pub across : Along first second (first .width) (first .beside) (second .width)

@@ -37,6 +37,8 @@ joinedLayer first second = record {
   left = second .left;
   rows = second .rows;
   columns = second .columns;
+  below = first .below;
+  beside = first .beside;
 }
 
 -- the weight at the flat place p: its plane is mC + c

@@ -39,6 +39,8 @@ pub fn joined_layer(first: Layer, second: Layer) -> Layer
         left: second.left,
         rows: second.rows,
         columns: second.columns,
+        below: first.below,
+        beside: first.beside,
     }
 }
 

@@ -24,8 +24,8 @@ module _ (l : Layer) (r : InRange l) where
   kernel-high = mul-le-mul {n₂ = 4096} {m₂ = 121} planes-high weights-high
 
 module _ (l : Layer) (p : Planned l) where
-  pub output-rows-high : l .outputs * l .rows ≤ 131520
-  output-rows-high = mul-le-mul {n₂ = 64} {m₂ = 2055} (p .shape .outputs-high) (rows-wanted l p .count-high)
+  pub output-rows-high : l .outputs * l .rows ≤ 131712
+  output-rows-high = mul-le-mul {n₂ = 64} {m₂ = 2058} (p .shape .outputs-high) (rows-wanted l p .count-high)
 
-  pub output-high : outputCount l ≤ 270273600
-  output-high = mul-le-mul {n₂ = 131520} {m₂ = 2055} output-rows-high (columns-wanted l p .count-high)
+  pub output-high : outputCount l ≤ 271063296
+  output-high = mul-le-mul {n₂ = 131712} {m₂ = 2058} output-rows-high (columns-wanted l p .count-high)

@@ -1,4 +1,5 @@
--- 01, "The bench program": a layer as fourteen numbers in a row, kind field C M H W K S P peak top left h w.
+-- 01, "The bench program", and 02, E7: a layer as sixteen numbers in a row, kind field C M H W K S P peak top left h w, then the rows and the
+-- columns that are added.
 use mathlib.Core.List.{List}
 use Prim.Native.Nat.{ℕ}
 use lib.ListN.{getD}
@@ -20,4 +21,6 @@ layerOf numbers = record {
   left = getD numbers 11 0;
   rows = getD numbers 12 0;
   columns = getD numbers 13 0;
+  below = getD numbers 14 0;
+  beside = getD numbers 15 0;
 }

@@ -1,4 +1,4 @@
--- 01, "A layer" and "Field and tile": the sizes of a layer's output, and its tiles.
+-- 01, "A layer" and "Field and tile", and 02, E7: the sizes of a layer's output, and its tiles.
 use mathlib.Core.Bool.{Bool, cond}
 use Prim.Native.Nat.{ℕ, _+_, _*_, _-_, _/_, _%_}
 use lib.Dec.{eqb}
@@ -30,19 +30,20 @@ outputCount l = l .outputs * l .rows * l .columns
 unfoldable pub convSize : (extent side stride padding : ℕ) → ℕ
 convSize extent side stride padding = (extent + 2 * padding - side) / stride + 1
 
--- TCONV: (H − 1)S + K − 2P, 0 where that is negative
-unfoldable pub tconvSize : (extent side stride padding : ℕ) → ℕ
-tconvSize extent side stride padding = (extent - 1) * stride + side - 2 * padding
+-- TCONV: (H − 1)S + K − 2P and the rows that are added, 0 where that is negative
+unfoldable pub tconvSize : (extent side stride padding added : ℕ) → ℕ
+tconvSize extent side stride padding added = (extent - 1) * stride + side + added - 2 * padding
 
-abbrev pub fullSize : Layer → ℕ → ℕ
-fullSize l extent = cond (isConv l) (convSize extent (l .side) (l .stride) (l .padding)) (tconvSize extent (l .side) (l .stride) (l .padding))
+abbrev pub fullSize : Layer → (extent added : ℕ) → ℕ
+fullSize l extent added =
+    cond (isConv l) (convSize extent (l .side) (l .stride) (l .padding)) (tconvSize extent (l .side) (l .stride) (l .padding) added)
 
 -- E and F
 abbrev pub fullHeight : Layer → ℕ
-fullHeight l = fullSize l (l .height)
+fullHeight l = fullSize l (l .height) (l .below)
 
 abbrev pub fullWidth : Layer → ℕ
-fullWidth l = fullSize l (l .width)
+fullWidth l = fullSize l (l .width) (l .beside)
 
 -- ---- tiles
 

@@ -13,12 +13,12 @@ window-fits H K S P e k s =
     let fits : (e ≤ (H + 2 * P - K) / S) ↔ (e * S ≤ H + 2 * P - K) = le-div-iff-mul-le s in
     (λ l. omega (arith, fits .0 (omega arith)), λ h. omega (arith, fits .1 (omega arith)))
 
--- where the stride divides, TCONV's output has the size of CONV's map
-pub same-shape : (H K S P : ℕ) → K ≤ H + 2 * P → (H + 2 * P - K) % S ≡ 0 → tconvSize (convSize H K S P) K S P ≡ H
+-- with the remainder that the stride leaves added, TCONV's output has the size of CONV's map
+pub same-shape : (H K S P : ℕ) → K ≤ H + 2 * P → tconvSize (convSize H K S P) K S P ((H + 2 * P - K) % S) ≡ H
 unfolding convSize tconvSize
-same-shape H K S P k e = go ((H + 2 * P - K) / S) (omega (arith, div-add-mod' (H + 2 * P - K) S))
+same-shape H K S P k = go ((H + 2 * P - K) / S) ((H + 2 * P - K) % S) (div-add-mod' (H + 2 * P - K) S)
   where
-    go : (q : ℕ) → q * S ≡ H + 2 * P - K → (q + 1 - 1) * S + K - 2 * P ≡ H
-    go q d =
+    go : (q r : ℕ) → q * S + r ≡ H + 2 * P - K → (q + 1 - 1) * S + K + r - 2 * P ≡ H
+    go q r d =
         let last : q + 1 - 1 ≡ q = omega arith in
         rw last (omega arith)

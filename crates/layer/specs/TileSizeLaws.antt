@@ -30,18 +30,18 @@ pub columns-wanted : (l : Layer) → Planned l → Wanted l (l .columns)
 columns-wanted l p = record { shape = p .shape; count-low = p .columns-low; count-high = omega (arith, p .columns-end, p .full-width-high) }
 
 module _ (l : Layer) (count : ℕ) (w : Wanted l count) where
-  pub steps-high : (count - 1) * l .stride ≤ 8216
-  steps-high = mul-le-mul {n₂ = 2054} {m₂ = 4} (omega (arith, w .count-high)) (w .shape .stride-high)
+  pub steps-high : (count - 1) * l .stride ≤ 8228
+  steps-high = mul-le-mul {n₂ = 2057} {m₂ = 4} (omega (arith, w .count-high)) (w .shape .stride-high)
 
-  pub span-high : span l count ≤ 8217
+  pub span-high : span l count ≤ 8229
   span-high = cond-le (isConv l) (omega (arith, steps-high)) (omega (arith, w .count-high))
 
-  pub across-high : ceilingDiv (span l count) (tileSide l) ≤ 8280
+  pub across-high : ceilingDiv (span l count) (tileSide l) ≤ 8292
   unfolding ceilingDiv
   across-high = omega (arith, div-le-self (span l count + tileSide l - 1) (tileSide l), span-high, tile-side-high l (w .shape))
 
 -- the tiles of a layer are few
-pub total-high : (l : Layer) → Planned l → tileTotal l ≤ 64 * 8280 * 8280
+pub total-high : (l : Layer) → Planned l → tileTotal l ≤ 64 * 8292 * 8292
 unfolding tileTotal
 total-high l plan =
     mul-le-mul (mul-le-mul (plan .shape .outputs-high) (across-high _ _ (rows-wanted l plan))) (across-high _ _ (columns-wanted l plan))

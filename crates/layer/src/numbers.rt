@@ -1,9 +1,9 @@
-// A layer as fourteen numbers in a row: kind field C M H W K S P peak top left h w.
+// A layer as sixteen numbers in a row: kind field C M H W K S P peak top left h w, then the rows and the columns that are added.
 use crate::shape::Layer;
 ghost use mathlib.Core.Path.{_≡_};
 ghost use Rattle.layer.specs.Numbers.{layerOf};
 
-pub fn layer_of(numbers: &[usize; 14]) -> Layer
+pub fn layer_of(numbers: &[usize; 16]) -> Layer
     ensures { λ r. ⌜ r ≡ layerOf (now (numbers .entry)) ⌝ }
 {
     Layer {
@@ -21,5 +21,7 @@ pub fn layer_of(numbers: &[usize; 14]) -> Layer
         left: numbers[11],
         rows: numbers[12],
         columns: numbers[13],
+        below: numbers[14],
+        beside: numbers[15],
     }
 }

@@ -28,7 +28,7 @@ pub fn place_of(layer: Layer, tile: usize) -> Place
 
 // The row or the column of the stride-1 grid that a tile begins at: the crop's first output and the tiles before.
 pub fn grid_start(layer: Layer, first: usize, before: usize) -> usize
-    requires { ⌜ InRange layer × (first ≤ 2055) × (before ≤ 8280) ⌝ }
+    requires { ⌜ InRange layer × (first ≤ 2058) × (before ≤ 8292) ⌝ }
     ensures { λ r. ⌜ r ≡ first * gridStep layer + before * tileSide layer ⌝ }
 {
     first * sizes::grid_step(layer) + before * sizes::tile_side(layer)

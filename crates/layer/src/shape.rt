@@ -16,6 +16,8 @@ pub struct Layer {
     pub left: usize, // the first column kept
     pub rows: usize, // h, rows kept
     pub columns: usize, // w, columns kept
+    pub below: usize, // rows added at the bottom of a full TCONV output
+    pub beside: usize, // columns added at its right
 }
 
 // What the planner answers: the number of the first rule broken, or 0 and the figures of the layer.

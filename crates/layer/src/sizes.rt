@@ -1,4 +1,4 @@
-// The counts of a layer's values, the sizes of its full output and of its tiles. What they ask is what the rules 1 to 9 give.
+// The counts of a layer's values, the sizes of its full output and of its tiles. What they ask is what the rules 1 to 9 and 23 give.
 use crate::shape::Layer;
 use base::number::ceiling_div;
 use fermat::field;
@@ -32,15 +32,15 @@ pub fn output_count(layer: Layer) -> usize
     layer.outputs * layer.rows * layer.columns
 }
 
-// E of a map's height, F of its width.
-pub fn full_size(layer: Layer, extent: usize) -> usize
-    requires { ⌜ Outputs layer extent ⌝ }
-    ensures { λ r. ⌜ r ≡ fullSize layer extent ⌝ }
+// E of a map's height and the rows added, F of its width and the columns added.
+pub fn full_size(layer: Layer, extent: usize, added: usize) -> usize
+    requires { ⌜ Outputs layer extent added ⌝ }
+    ensures { λ r. ⌜ r ≡ fullSize layer extent added ⌝ }
 {
     if layer.kind == 0 {
         (extent + 2 * layer.padding - layer.side) / layer.stride + 1
     } else {
-        (extent - 1) * layer.stride + layer.side - 2 * layer.padding
+        (extent - 1) * layer.stride + layer.side + added - 2 * layer.padding
     }
 }
 

@@ -1,7 +1,7 @@
--- 01, "The two product sums": a CONV layer and the TCONV layer that takes its output's shape back to its map's, and the two sums.
+-- 01, "The two product sums", and 02, E7: a CONV layer and the TCONV layer that takes its output's shape back to its map's, and the two sums.
 use mathlib.Core.Path.{_≡_}
 use mathlib.Core.List.{List}
-use Prim.Native.Nat.{_+_, _*_, _-_, _%_}
+use Prim.Native.Nat.{ℕ, _+_, _*_, _-_, _%_}
 use lib.IntN.{ℤ}
 use Rattle.algebra.specs.Planes.{cell}
 use Rattle.layer.specs.declared.shape.Layer.{Layer}
@@ -15,13 +15,8 @@ pub record NotCropped (l : Layer) : Type 0 where
   pub rows : l .rows ≡ fullHeight l
   pub columns : l .columns ≡ fullWidth l
 
--- the stride divides: CONV's H + 2P − K and W + 2P − K are multiples of S
-pub record StrideDivides (conv : Layer) : Type 0 where
-  pub rows : (conv .height + 2 * conv .padding - conv .side) % conv .stride ≡ 0
-  pub columns : (conv .width + 2 * conv .padding - conv .side) % conv .stride ≡ 0
-
 -- both have the same K, S and P; TCONV's C and M are CONV's M and C, its H and W are CONV's E and F. Field and peak are free
-pub record Paired (conv tconv : Layer) : Type 0 where
+pub record Matched (conv tconv : Layer) : Type 0 where
   pub conv-kind : conv .kind ≡ 0
   pub tconv-kind : tconv .kind ≡ 1
   pub side : tconv .side ≡ conv .side
@@ -33,7 +28,24 @@ pub record Paired (conv tconv : Layer) : Type 0 where
   pub width : tconv .width ≡ fullWidth conv
   pub conv-whole : NotCropped conv
   pub tconv-whole : NotCropped tconv
-  pub divides : StrideDivides conv
+
+-- what S leaves of CONV's H + 2P − K, or of its W + 2P − K
+abbrev pub remainder : (conv : Layer) (extent : ℕ) → ℕ
+remainder conv extent = (extent + 2 * conv .padding - conv .side) % conv .stride
+
+-- E7: TCONV adds as many rows and columns as S leaves
+pub record Paired (conv tconv : Layer) : Type 0 where
+  pub matched : Matched conv tconv
+  pub rows-added : tconv .below ≡ remainder conv (conv .height)
+  pub columns-added : tconv .beside ≡ remainder conv (conv .width)
+
+-- 01's demand 3: the stride divides, so that it leaves nothing, and TCONV adds nothing
+pub record EvenlyPaired (conv tconv : Layer) : Type 0 where
+  pub matched : Matched conv tconv
+  pub rows-divided : remainder conv (conv .height) ≡ 0
+  pub columns-divided : remainder conv (conv .width) ≡ 0
+  pub no-rows-added : tconv .below ≡ 0
+  pub no-columns-added : tconv .beside ≡ 0
 
 -- x is the CONV map, y the TCONV map, u and v are the outputs: the sum over m, e, f of u [m][e][f] times y [m][e][f] equals the sum over
 -- c, i, j of x [c][i][j] times v [c][i][j]

@@ -1,4 +1,5 @@
--- 01, "The two product sums": the theorem on two whole lists of calls, each of an engine of its own. It rests on what the lists leave where
+-- 01, "The two product sums", and 02, E7: the theorem on two whole lists of calls, each of an engine of its own, for every stride, and 01's
+-- demand 3, where the stride divides, as its corollary. It rests on what the lists leave where
 -- their budgets reach the total, on the product law, and on the sizes of a CONV layer and of the TCONV layer that leads back.
 use mathlib.Core.Path.{_≡_, refl, sym, ap, ap₂, _∙_}
 use mathlib.Core.List.{List}
@@ -13,7 +14,7 @@ use Rattle.algebra.specs.PlanesLaws.{stacked-at}
 use Rattle.algebra.specs.PlacesLaws.{getD-table}
 use Rattle.algebra.specs.TripleSums.{sum3-cong}
 use Rattle.layer.specs.PlannedLaws.{conv-room}
-use Rattle.layer.specs.Planned.{Planned}
+use Rattle.layer.specs.Planned.{Outputs, Planned}
 use Rattle.layer.specs.declared.shape.Layer.{Layer}
 use Rattle.layer.specs.Shape.{fullSize, fullHeight, fullWidth}
 use Rattle.layer.specs.ShapeLaws.{same-shape}
@@ -23,7 +24,7 @@ use Rattle.layer.specs.ProductLaws.{product-law}
 use Rattle.checks.specs.Engine.{Engine, Lawful}
 use Rattle.engine.specs.Calls.{JobCalls, outputOf, Reaches}
 use Rattle.engine.specs.CallsLaws.{calls-callable, reached}
-use Rattle.product_sums.specs.ProductSums.{NotCropped, Paired, SumsAgree}
+use Rattle.product_sums.specs.ProductSums.{NotCropped, Matched, remainder, Paired, EvenlyPaired, SumsAgree}
 
 -- ---- the output of a layer that is not cropped
 
@@ -50,23 +51,22 @@ full-cell lawful {l} {map} {kernel} list reaches whole m i j channel row column 
 
 -- ---- two layers that are paired: `forward` is CONV, `backward` is TCONV
 
-module _ {forward backward : Layer} (paired : Paired forward backward) where
+module _ {forward backward : Layer} (pair : Paired forward backward) where
+  abbrev paired : Matched forward backward
+  paired = pair .matched
+
   -- along one side, TCONV leads back to the size of CONV's map
-  size-back : (size : ℕ) → forward .side ≤ size + 2 * forward .padding → (size + 2 * forward .padding - forward .side) % forward .stride ≡ 0
-      → fullSize backward (fullSize forward size) ≡ size
-  size-back size room divides =
+  size-back : (size added : ℕ) → Outputs forward size added → fullSize backward (fullSize forward size added) (remainder forward size) ≡ size
+  size-back size added outputs =
+      let room = conv-room forward size added outputs (paired .conv-kind) in
       rw (eq-eqb (forward .kind) 0 (paired .conv-kind), ne-eqb (backward .kind) 0 (λ z. omega (arith, paired .tconv-kind)))
-      (rw (paired .side, paired .stride, paired .padding) (same-shape size (forward .side) (forward .stride) (forward .padding) room divides))
+      (rw (paired .side, paired .stride, paired .padding) (same-shape size (forward .side) (forward .stride) (forward .padding) room))
 
   height-back : Planned forward → fullHeight backward ≡ forward .height
-  height-back plan =
-      ap (fullSize backward) (paired .height)
-      ∙ size-back (forward .height) (conv-room forward (forward .height) (plan .height-output) (paired .conv-kind)) (paired .divides .rows)
+  height-back plan = ap₂ (fullSize backward) (paired .height) (pair .rows-added) ∙ size-back (forward .height) (forward .below) (plan .height-output)
 
   width-back : Planned forward → fullWidth backward ≡ forward .width
-  width-back plan =
-      ap (fullSize backward) (paired .width)
-      ∙ size-back (forward .width) (conv-room forward (forward .width) (plan .width-output) (paired .conv-kind)) (paired .divides .columns)
+  width-back plan = ap₂ (fullSize backward) (paired .width) (pair .columns-added) ∙ size-back (forward .width) (forward .beside) (plan .width-output)
 
   -- u [m][e][f]
   conv-cell : {engine : Engine} → Lawful engine → {x kernel : List ℤ} (us : JobCalls engine forward x kernel) → Reaches us
@@ -108,3 +108,14 @@ product-sums one-lawful other-lawful {conv = l} {x = x} {y} {kernel} paired us v
     ∙ product-law (l .inputs) (l .outputs) (l .height) (l .width) (fullHeight l) (fullWidth l) (l .side) (l .stride) (l .padding) x y kernel
     ∙ product-cong (l .inputs) (l .height) (l .width) _ _ _ _ (λ c i j _ _ _. refl)
     (λ c i j k h w. sym (tconv-cell paired other-lawful vs v-reaches plan c i j k h w))
+
+-- 01's demand 3, in its own words: the stride divides, and no rows or columns are added
+pub product-sums-evenly : {one other : Engine} → Lawful one → Lawful other → {conv tconv : Layer} {x y kernel : List ℤ} → EvenlyPaired conv tconv
+    → (us : JobCalls one conv x kernel) (vs : JobCalls other tconv y kernel) → Reaches us → Reaches vs
+    → SumsAgree conv x y (outputOf us) (outputOf vs)
+product-sums-evenly one-lawful other-lawful even =
+    product-sums one-lawful other-lawful (record {
+      matched = even .matched;
+      rows-added = even .no-rows-added ∙ sym (even .rows-divided);
+      columns-added = even .no-columns-added ∙ sym (even .columns-divided);
+    })

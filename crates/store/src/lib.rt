@@ -86,7 +86,7 @@ fn store_row(
 
 // The first row or column of the output that lies in this tile of a line of tiles, or further on.
 fn first_held(tile: usize, side: usize, step: usize) -> usize
-    requires { ⌜ (tile ≤ 8280) × (side ≤ 64) × (1 ≤ step) × (step ≤ 4) ⌝ }
+    requires { ⌜ (tile ≤ 8292) × (side ≤ 64) × (1 ≤ step) × (step ≤ 4) ⌝ }
     ensures { λ r. ⌜ r ≡ ceilingDiv (tile * side) step ⌝ }
 {
     ceiling_div(tile * side, step)
@@ -94,7 +94,7 @@ fn first_held(tile: usize, side: usize, step: usize) -> usize
 
 // The first row or column after this tile, or `count` where there is none.
 fn end_held(tile: usize, side: usize, step: usize, count: usize) -> usize
-    requires { ⌜ (tile < 8280) × (side ≤ 64) × (1 ≤ step) × (step ≤ 4) ⌝ }
+    requires { ⌜ (tile < 8292) × (side ≤ 64) × (1 ≤ step) × (step ≤ 4) ⌝ }
     ensures { λ r. ⌜ r ≡ min (ceilingDiv ((tile + 1) * side) step) count ⌝ }
 {
     lesser(first_held(tile + 1, side, step), count)

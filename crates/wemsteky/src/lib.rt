@@ -18,7 +18,7 @@ ghost use Rattle.wemsteky.specs.Figures.{planFigures, progressFigures, R
 
 // E, F, the tile total and 3N²; zeros where the layer is refused.
 #[no_mangle]
-pub extern "C" fn wemsteky_plan(layer: &[usize; 14], figures: &mut [usize; 4]) -> usize
+pub extern "C" fn wemsteky_plan(layer: &[usize; 16], figures: &mut [usize; 4]) -> usize
     ensures { λ r. ⌜ r ≡ planOf tileEngine (layerOf (now (layer .entry))) .code ⌝ }
     ensures { λ _. ⌜ now (figures .exit) ≡ planFigures (planOf tileEngine (layerOf (now (layer .entry)))) ⌝ }
 {
@@ -38,7 +38,7 @@ fn report(progress: Progress, figures: &mut [usize; 3]) -> usize
 
 #[no_mangle]
 pub extern "C" fn wemsteky_run(
-    layer: &[usize; 14],
+    layer: &[usize; 16],
     map: &[i16],
     kernel: &[i16],
     output: &mut [i32],
@@ -53,7 +53,7 @@ pub extern "C" fn wemsteky_run(
 
 #[no_mangle]
 pub extern "C" fn wemsteky_job(
-    layer: &[usize; 14],
+    layer: &[usize; 16],
     next: usize,
     budget: usize,
     map: &[i16],
@@ -109,9 +109,9 @@ pub extern "C" fn wemsteky_noise(seed: u32, map: &mut [i16]) -> u32
 
 #[no_mangle]
 pub extern "C" fn wemsteky_join(
-    first: &[usize; 14],
+    first: &[usize; 16],
     first_kernel: &[i16],
-    second: &[usize; 14],
+    second: &[usize; 16],
     second_kernel: &[i16],
     joined: &mut [i16],
 ) -> usize

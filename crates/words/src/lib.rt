@@ -61,7 +61,7 @@ fn next_word(text: &[u8], cut: bool, at: usize) -> Span
 }
 
 // As many numbers 0 to 65,535 as there is room for, from the start on.
-fn read_figures(text: &[u8], cut: bool, numbers: &mut [usize]) -> Read
+pub fn read_figures(text: &[u8], cut: bool, numbers: &mut [usize]) -> Read
     ensures { λ r. ⌜ WordsRead isFigure cut (now (text .entry)) 0 (length (now (numbers .entry))) r ⌝ }
     ensures { λ r. ⌜ (r .valid ≡ true → now (numbers .exit) ≡ figuresOf (take (length (now (numbers .entry))) (wordsOf cut (now (text .entry))))) ⌝ }
 {
@@ -86,14 +86,6 @@ fn read_figures(text: &[u8], cut: bool, numbers: &mut [usize]) -> Read
         valid: true,
         at: at,
     }
-}
-
-// Fourteen numbers 0 to 65,535 from the start on.
-pub fn read_header(text: &[u8], cut: bool, numbers: &mut [usize; 14]) -> Read
-    ensures { λ r. ⌜ WordsRead isFigure cut (now (text .entry)) 0 14 r ⌝ }
-    ensures { λ r. ⌜ (r .valid ≡ true → now (numbers .exit) ≡ figuresOf (take 14 (wordsOf cut (now (text .entry))))) ⌝ }
-{
-    read_figures(text, cut, numbers)
 }
 
 // As many signed numbers as there are values, from `at` on, of a text that is not cut off.

@@ -68,7 +68,7 @@ fn noise(calls: usize) {
 }
 
 fn join(first: usize, second: usize, calls: usize) {
-    let filter = |side: usize| [0, 4, CHANNELS, CHANNELS, 16, 16, side, 1, 0, 1, 0, 0, 1, 1];
+    let filter = |side: usize| [0, 4, CHANNELS, CHANNELS, 16, 16, side, 1, 0, 1, 0, 0, 1, 1, 0, 0];
     let weights = |side: usize| vec![1; CHANNELS * CHANNELS * side * side];
     let (one, other) = (weights(first), weights(second));
     let mut joined = weights(first + second - 1);

@@ -16,7 +16,7 @@ use Rattle.store.proofs.held_in.Tie as tie
 -- bounds of the arguments of the two calls
 bounds : (c : tie.Start) →
     let l = c .args .layer in
-    (c .args .tile < 8280) × (tileSide l ≤ 64) × (1 ≤ gridStep l) × (gridStep l ≤ 4)
+    (c .args .tile < 8292) × (tileSide l ≤ 64) × (1 ≤ gridStep l) × (gridStep l ≤ 4)
 bounds c =
     let l = c .args .layer in
     let p = c .pre .0 in (
@@ -46,13 +46,13 @@ end-is c =
 -- the first lies in the tile and before the end
 inside : (c : tie.After-end-held) → let tile = start (c .before) .args .tile in let first = c .before .first-held .result in
     let step = c .before .before .grid-step .result in let side = sided (c .before) .tile-side .result in
-    (first < c .end-held .result) × (tile * side ≤ first * step) × (first * step < tile * side + side) × (tile * side ≤ 8280 * 64) × (side ≤ 64)
+    (first < c .end-held .result) × (tile * side ≤ first * step) × (first * step < tile * side + side) × (tile * side ≤ 8292 * 64) × (side ≤ 64)
 inside c =
     let s = start (c .before) in
     let held = first-held _ (s .pre .0) _ _ _ _ (s .pre .1) (s .pre .2) (first-is (c .before)) (end-is c) in
     let (some, low, high) = rw (← sided (c .before) .tile-side .ensures, ← c .before .before .grid-step .ensures) at held in
     let side : sided (c .before) .tile-side .result ≤ 64 = omega (arith, bounds s) in
-    (some, low, high, mul-le-mul {n₂ = 8280} {m₂ = 64} (omega (arith, bounds s)) side, side)
+    (some, low, high, mul-le-mul {n₂ = 8292} {m₂ = 64} (omega (arith, bounds s)) side, side)
 
 tile-side-requires : tie.Need-tile-side-requires
 tile-side-requires c κs = search needs

@@ -10,7 +10,7 @@ use Rattle.checks.proofs.planner.has_output.Statement.{statement}
 use Rattle.checks.proofs.planner.has_output.Tie as tie
 
 steps : (c : tie.Else1) → let a = c .before .before .args in (a .extent - 1) * a .layer .stride ≤ 2044
-steps c = strides-high _ _ (c .before .before .pre)
+steps c = strides-high _ _ _ (c .before .before .pre)
 
 mul-result : tie.Need-mul-result
 mul-result c = search needs
@@ -33,13 +33,16 @@ mul-result-3 c = omega (arith, steps (c .before .before))
 add-result-2 : tie.Need-add-result-2
 add-result-2 c = omega (arith, steps (c .before .before .before))
 
+add-result-3 : tie.Need-add-result-3
+add-result-3 c = omega (arith, steps (c .before .before .before), c .before .before .before .before .before .pre .added-high)
+
 returns-2 : tie.Need-returns-2
 unfolding tconvSize
 returns-2 c =
     let a = c .before .before .before .before .before .args in
     let l = a .layer in
     simp (ne-eqb _ _ (c .before .before .before .if1 .left))
-    (leb-same (suc (2 * l .padding)) ((a .extent - 1) * l .stride + l .side) 1 (tconvSize (a .extent) (l .side) (l .stride) (l .padding))
+    (leb-same (suc (2 * l .padding)) ((a .extent - 1) * l .stride + l .side + a .added) 1 (tconvSize (a .extent) (l .side) (l .stride) (l .padding) (a .added))
     (λ h. omega arith)
     (λ h. omega arith))
 
@@ -54,4 +57,5 @@ has-output-spec =
     sub-result
     mul-result-3
     add-result-2
+    add-result-3
     returns-2)

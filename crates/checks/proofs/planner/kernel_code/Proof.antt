@@ -20,8 +20,28 @@ next-requires-2 c κs = search needs
 next-requires-3 : tie.Need-next-requires-3
 next-requires-3 c κs = search needs
 
+added-fits-requires : tie.Need-added-fits-requires
+added-fits-requires c κs = search needs
+
+added-fits-requires-2 : tie.Need-added-fits-requires-2
+added-fits-requires-2 c κs = search needs
+
+next-requires-4 : tie.Need-next-requires-4
+next-requires-4 c κs = search needs
+
 returns : tie.Need-returns
 returns c = cc (rule-by-rule (kernelRules _) tt)
 
 pub kernel-code-spec : {M : Type 1} → statement M
-kernel-code-spec = tie.close (tie.spec is-inside-requires next-requires is-inside-requires-2 next-requires-2 next-requires-3 returns)
+kernel-code-spec =
+    tie.close
+    (tie.spec
+    is-inside-requires
+    next-requires
+    is-inside-requires-2
+    next-requires-2
+    next-requires-3
+    added-fits-requires
+    added-fits-requires-2
+    next-requires-4
+    returns)

@@ -26,13 +26,13 @@ start c = c .before .before .before .before
 output-code : (c : tie.After-next) → c .next .result ≡ firstBroken (output-rules (c .before .before .before .args .layer))
 output-code c = one-rule 8 (c .next .ensures) (ap₂ _&&_ (c .before .before .has-output .ensures) (c .before .has-output2 .ensures))
 
-outputs : (c : tie.Else1) → let l = start c .args .layer in (hasOutput l (l .height) ≡ true) × (hasOutput l (l .width) ≡ true)
+outputs : (c : tie.Else1) → let l = start c .args .layer in (hasOutput l (l .height) (l .below) ≡ true) × (hasOutput l (l .width) (l .beside) ≡ true)
 outputs c = both-true _ _ (none-broken (output-rules (start c .args .layer)) tt (sym (output-code (c .before)) ∙ c .if1 .left) .0)
 
-height-output : (c : tie.Else1) → let l = start c .args .layer in Outputs l (l .height)
+height-output : (c : tie.Else1) → let l = start c .args .layer in Outputs l (l .height) (l .below)
 height-output c = record { in-range = height-extent _ (start c .pre); some = outputs c .0 }
 
-width-output : (c : tie.Else1) → let l = start c .args .layer in Outputs l (l .width)
+width-output : (c : tie.Else1) → let l = start c .args .layer in Outputs l (l .width) (l .beside)
 width-output c = record { in-range = width-extent _ (start c .pre); some = outputs c .1 }
 
 has-output-requires : tie.Need-has-output-requires

@@ -9,12 +9,12 @@ use Rattle.layer.specs.TileSizeLaws.{tile-side-high}
 use Rattle.layer.proofs.place.grid_start.Statement.{statement}
 use Rattle.layer.proofs.place.grid_start.Tie as tie
 
-steps : (c : tie.After-grid-step) → c .before .args .first * c .grid-step .result ≤ 2055 * 4
+steps : (c : tie.After-grid-step) → c .before .args .first * c .grid-step .result ≤ 2058 * 4
 steps c =
     let s = c .before in
     mul-le-mul {m₂ = 4} (s .pre .1) (omega (arith, c .grid-step .ensures, step-range (s .args .layer) (s .pre .0) .1))
 
-tiles : (c : tie.After-tile-side) → c .before .before .args .before * c .tile-side .result ≤ 8280 * 64
+tiles : (c : tie.After-tile-side) → c .before .before .args .before * c .tile-side .result ≤ 8292 * 64
 tiles c =
     let s = c .before .before in
     mul-le-mul {m₂ = 64} (s .pre .2) (omega (arith, c .tile-side .ensures, tile-side-high (s .args .layer) (s .pre .0)))

@@ -10,13 +10,13 @@ use Rattle.layer.proofs.sizes.full_size.Statement.{statement}
 use Rattle.layer.proofs.sizes.full_size.Tie as tie
 
 conv : (c : tie.Then1) → let a = c .before .before .args in a .layer .side ≤ a .extent + 2 * a .layer .padding
-conv c = conv-room _ _ (c .before .before .pre) (c .if1 .taken)
+conv c = conv-room _ _ _ (c .before .before .pre) (c .if1 .taken)
 
-tconv : (c : tie.Else1) → let a = c .before .before .args in 2 * a .layer .padding < (a .extent - 1) * a .layer .stride + a .layer .side
-tconv c = tconv-room _ _ (c .before .before .pre) (c .if1 .left)
+tconv : (c : tie.Else1) → let a = c .before .before .args in 2 * a .layer .padding < (a .extent - 1) * a .layer .stride + a .layer .side + a .added
+tconv c = tconv-room _ _ _ (c .before .before .pre) (c .if1 .left)
 
 steps : (c : tie.Else1) → let a = c .before .before .args in (a .extent - 1) * a .layer .stride ≤ 2044
-steps c = strides-high _ _ (c .before .before .pre .in-range)
+steps c = strides-high _ _ _ (c .before .before .pre .in-range)
 
 mul-result : tie.Need-mul-result
 mul-result c = search needs
@@ -45,6 +45,9 @@ mul-result-2 c = omega (arith, steps (c .before))
 add-result-3 : tie.Need-add-result-3
 add-result-3 c = omega (arith, steps (c .before .before))
 
+add-result-4 : tie.Need-add-result-4
+add-result-4 c = omega (arith, steps (c .before .before), c .before .before .before .before .pre .in-range .added-high)
+
 mul-result-3 : tie.Need-mul-result-3
 mul-result-3 c = search needs
 
@@ -71,6 +74,7 @@ full-size-spec =
     sub-result-2
     mul-result-2
     add-result-3
+    add-result-4
     mul-result-3
     sub-result-3
     returns

@@ -8,13 +8,13 @@ use Rattle.layer.specs.TileSizeLaws.{rows-wanted, columns-wanted, across
 use Rattle.layer.proofs.sizes.tile_total.Statement.{statement}
 use Rattle.layer.proofs.sizes.tile_total.Tie as tie
 
-rows : (c : tie.After-tiles-along) → c .tiles-along .result ≤ 8280
+rows : (c : tie.After-tiles-along) → c .tiles-along .result ≤ 8292
 rows c = omega (arith, c .tiles-along .ensures, across-high _ _ (rows-wanted _ (c .before .pre)))
 
-columns : (c : tie.After-tiles-along2) → c .tiles-along2 .result ≤ 8280
+columns : (c : tie.After-tiles-along2) → c .tiles-along2 .result ≤ 8292
 columns c = omega (arith, c .tiles-along2 .ensures, across-high _ _ (columns-wanted _ (c .before .before .before .pre)))
 
-rows-product : (c : tie.After-tiles-along) → c .before .args .layer .outputs * c .tiles-along .result ≤ 64 * 8280
+rows-product : (c : tie.After-tiles-along) → c .before .args .layer .outputs * c .tiles-along .result ≤ 64 * 8292
 rows-product c = mul-le-mul (c .before .pre .shape .outputs-high) (rows c)
 
 tiles-along-requires : tie.Need-tiles-along-requires

@@ -16,10 +16,10 @@ use Rattle.tile.proofs.origin.origin_of.Statement.{statement}
 use Rattle.tile.proofs.origin.origin_of.Tie as tie
 
 -- the grid place of a tile that begins before the last of `count` outputs
-start-high : (l : Layer) (count first index : ℕ) → InRange l → 1 ≤ count → first + count ≤ 2055
+start-high : (l : Layer) (count first index : ℕ) → InRange l → 1 ≤ count → first + count ≤ 2058
     → index < ceilingDiv (span l count) (tileSide l) → first * gridStep l + index * tileSide l ≤ 10000
 start-high l count first index r some end before =
-    let last : (first + (count - 1)) * gridStep l ≤ 2054 * 4 = mul-le-mul {n₂ = 2054} {m₂ = 4} (omega arith) (step-range l r .1) in
+    let last : (first + (count - 1)) * gridStep l ≤ 2057 * 4 = mul-le-mul {n₂ = 2057} {m₂ = 4} (omega arith) (step-range l r .1) in
     let begins : index * tileSide l < span l count = ceiling-starts (span l count) (tileSide l) index (omega (arith, tile-side-low l r)) before in
     omega (arith, span-is l count some)
 
