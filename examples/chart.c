@@ -1,5 +1,5 @@
-/* A transposed convolution planned, run tile by tile, its outputs as levels, and a call that is refused; a transform there and back; noise; two
- * filters joined. */
+/* A transposed convolution planned, with a row and a column added too, run tile by tile, its outputs as levels, and a call that is refused; a
+ * transform there and back; noise; two filters joined. */
 #include <stdio.h>
 #include <string.h>
 
@@ -22,7 +22,7 @@ static int failed(const char *what, size_t code)
 }
 
 /* Runs the layer in budgets of two tiles and returns the code of the last call. */
-static size_t run_in_budgets(const size_t layer[14], const int16_t *kernel, size_t kernel_len, size_t figures[3])
+static size_t run_in_budgets(const size_t layer[16], const int16_t *kernel, size_t kernel_len, size_t figures[3])
 {
     size_t next = 0, code;
     do {
@@ -45,7 +45,7 @@ static void show_noise(uint32_t seed)
 /* Joins a filter of 1 by 1 from two channels to one and a filter of 2 by 2, and one whose weights are too large. */
 static void show_joined(void)
 {
-    const size_t first[14] = {0, 4, 2, 1, 8, 8, 1, 1, 0, 100, 0, 0, 8, 8}, second[14] = {0, 4, 1, 1, 8, 8, 2, 1, 0, 100, 0, 0, 7, 7};
+    const size_t first[16] = {0, 4, 2, 1, 8, 8, 1, 1, 0, 100, 0, 0, 8, 8}, second[16] = {0, 4, 1, 1, 8, 8, 2, 1, 0, 100, 0, 0, 7, 7};
     const int16_t mixed[2] = {3, -2}, edge[4] = {1, 0, 0, -1}, large[4] = {1, 0, 0, 20000};
     int16_t joined[8];
     size_t code = wemsteky_join(first, mixed, 2, second, edge, 4, joined, 8);
@@ -56,8 +56,10 @@ static void show_joined(void)
 
 int main(void)
 {
-    /* TCONV in F_4: one map channel of 24 by 24 to two channels of 50 by 50, K 4, S 2, P 0, peak 100, not cropped */
-    const size_t layer[14] = {1, 4, 1, CHANNELS, SIDE, SIDE, 4, 2, 0, 100, 0, 0, FULL, FULL};
+    /* TCONV in F_4: one map channel of 24 by 24 to two channels of 50 by 50, K 4, S 2, P 0, peak 100, not cropped; then with a row and a column
+     * added */
+    const size_t layer[16] = {1, 4, 1, CHANNELS, SIDE, SIDE, 4, 2, 0, 100, 0, 0, FULL, FULL};
+    const size_t enlarged[16] = {1, 4, 1, CHANNELS, SIDE, SIDE, 4, 2, 0, 100, 0, 0, FULL + 1, FULL + 1, 1, 1};
     const int16_t kernel[CHANNELS * 16] = {1, 2, 3, 4, 5, 6, 7, 8, 9, 10, 11, 12, 13, 14, 15, 16,
                                            -1, 0, 0, 0, 0, -1, 0, 0, 0, 0, -1, 0, 0, 0, 0, -1};
     size_t figures[4], progress[3], code;
@@ -65,6 +67,10 @@ int main(void)
     code = wemsteky_plan(layer, figures);
     if (code != 0) return failed("plan", code);
     printf("plan %zu by %zu, %zu tiles, %zu words of scratch\n", figures[0], figures[1], figures[2], figures[3]);
+
+    code = wemsteky_plan(enlarged, figures);
+    if (code != 0) return failed("plan", code);
+    printf("with a row and a column added %zu by %zu\n", figures[0], figures[1]);
 
     map[0] = 100;
     map[SIDE * SIDE - 1] = -100;

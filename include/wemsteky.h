@@ -2,7 +2,7 @@
  * Wemsteky: convolution and transposed convolution of whole-number maps, computed exactly. The C interface of a proved library; what is proved
  * and what is not is in docs/ASSURANCE.md.
  *
- * THE LAYER is fourteen numbers: kind field C M H W K S P peak top left h w.
+ * THE LAYER is sixteen numbers: kind field C M H W K S P peak top left h w below beside.
  *
  *   kind          0 is convolution (CONV), 1 is transposed convolution (TCONV)
  *   field         4 or 5; see THE FIELD
@@ -11,6 +11,7 @@
  *   K S P         side of the kernel, 1 to 11; stride, 1 to 4; padding, 0 to K - 1
  *   peak          no map value is above it or below its negative, 1 to 32,767
  *   top left h w  the crop: first row and column kept of the full output, and how many rows and columns
+ *   below beside  rows added at the bottom and columns added at the right of a full TCONV output (ONNX: output_padding), each 0 to S - 1; 0 in CONV
  *
  * BUFFERS are rows one after the other, planes one after the other.
  *
@@ -24,9 +25,10 @@
  * THE FULL OUTPUT has E rows and F columns.
  *
  *   CONV:   E = (H + 2P - K) / S rounded down, plus 1;  F the same with W
- *   TCONV:  E = (H - 1) S + K - 2P;                     F the same with W
+ *   TCONV:  E = (H - 1) S + K - 2P + below;             F the same with W and beside
  *
- * To learn E and F, ask wemsteky_plan with top = left = 0 and h = w = 1.
+ * To learn E and F, ask wemsteky_plan with top = left = 0 and h = w = 1. A TCONV layer leads back to the size of a CONV layer's map where below and
+ * beside are what S leaves of that layer's H + 2P - K and W + 2P - K.
  *
  * THE SUMS, where a map value outside the map is 0 and a weight outside its K by K square is 0; as the ONNX operators Conv and ConvTranspose:
  *
@@ -53,22 +55,20 @@
  *   5 K outside 1 to 11                   15 some map value above peak or below -peak
  *   6 S outside 1 to 4                    16 some output channel's load above the limit
  *   7 P above K - 1                       17 the index of the next tile above the total
- *   8 the full output has no row or no    18 not N words to transform
- *     column                              19 a word not below the field
- *   9 the crop is empty or reaches        20 the shift outside 0 to 31, the bound outside 1 to 32,767, or not as many levels as outputs
- *     beyond the full output
- *  10 map length is not C H W
- *  26 a layer to join not CONV with S 1 and P 0, its C, M or K outside the ranges above, a kernel length, that of the joined one too, not as the
- *     figures say, or the first layer's M not the second's C
- *  27 the joined side above 11
- *  28 some joined weight not within 16 signed bits
+ *  23 below or beside above S - 1, or     18 not N words to transform
+ *     not 0 in CONV                       19 a word not below the field
+ *   8 the full output has no row or no    20 the shift outside 0 to 31, the bound outside 1 to 32,767, or not as many levels as outputs
+ *     column                              26 a layer to join not CONV with S 1 and P 0, its C, M or K outside the ranges, a kernel length, that of
+ *   9 the crop is empty or reaches           the joined one too, not as the figures say, or the first layer's M not the second's C
+ *     beyond the full output              27 the joined side above 11
+ *  10 map length is not C H W             28 some joined weight not within 16 signed bits
  *
  * WHAT THE CALLER KEEPS, which nothing checks: each pointer points to as many elements as its length says, also where that is 0, so no pointer is
  * null; a buffer that a call writes (output, scratch, figures, words, levels, map of wemsteky_noise, joined) overlaps no other buffer of the call;
  * nobody else writes a buffer of a call while it runs. size_t has 64 bits.
  *
- * The functions allocate nothing, have no globals and hold no locks: any number of calls may run at once on buffers of their own. Runs used 2,480
- * bytes of stack when that was measured, a job call 2,240, the others less (tests/stack.c prints it).
+ * The functions allocate nothing, have no globals and hold no locks: any number of calls may run at once on buffers of their own. Runs used 2,688
+ * bytes of stack when that was measured, a job call 2,416, the others less (tests/stack.c prints it).
  */
 #ifndef WEMSTEKY_H
 #define WEMSTEKY_H
@@ -76,7 +76,7 @@
 #include <stddef.h>
 #include <stdint.h>
 
-#define WEMSTEKY_VERSION 0x000100 /* major, minor and patch, a byte each */
+#define WEMSTEKY_VERSION 0x000200 /* major, minor and patch, a byte each */
 
 /* The words of scratch, 3 N N, in field 4 and in field 5. Scratch may be longer. */
 #define WEMSTEKY_SCRATCH_4 3072
@@ -99,18 +99,18 @@
 extern "C" {
 #endif
 
-/* Checks 1 to 9. figures: E, F, the total of tiles, 3 N N words of scratch; zeros where the layer is refused. */
-WEMSTEKY_MUST_USE size_t wemsteky_plan(const size_t layer[14], size_t figures[4]);
+/* Checks 1 to 9 and 23. figures: E, F, the total of tiles, 3 N N words of scratch; zeros where the layer is refused. */
+WEMSTEKY_MUST_USE size_t wemsteky_plan(const size_t layer[16], size_t figures[4]);
 
-/* Checks 1 to 16, then every tile: each output becomes its sum. figures: tiles finished, index of the next tile, 1 where done; zeros where the
+/* Checks 1 to 16 and 23, then every tile: each output becomes its sum. figures: tiles finished, index of the next tile, 1 where done; zeros where the
  * call is refused. An accepted call leaves the first 3 N N words of scratch zero and later ones as they were; what they held before is free. */
-WEMSTEKY_MUST_USE size_t wemsteky_run(const size_t layer[14], const int16_t *map, size_t map_len, const int16_t *kernel, size_t kernel_len,
+WEMSTEKY_MUST_USE size_t wemsteky_run(const size_t layer[16], const int16_t *map, size_t map_len, const int16_t *kernel, size_t kernel_len,
                                       int32_t *output, size_t output_len, uint64_t *scratch, size_t scratch_len, size_t figures[3]);
 
-/* Checks 1 to 17, then the lesser of the budget and the tiles left, from tile `next` on; a budget of 0 is accepted. Outputs of the tiles finished
- * become their sums, all others stay. figures: tiles finished, index of the next tile (as given where the call is refused), 1 where no tile is
- * left. Scratch as after wemsteky_run. */
-WEMSTEKY_MUST_USE size_t wemsteky_job(const size_t layer[14], size_t next, size_t budget, const int16_t *map, size_t map_len,
+/* Checks 1 to 17 and 23, then the lesser of the budget and the tiles left, from tile `next` on; a budget of 0 is accepted. Outputs of the tiles
+ * finished become their sums, all others stay. figures: tiles finished, index of the next tile (as given where the call is refused), 1 where no
+ * tile is left. Scratch as after wemsteky_run. */
+WEMSTEKY_MUST_USE size_t wemsteky_job(const size_t layer[16], size_t next, size_t budget, const int16_t *map, size_t map_len,
                                       const int16_t *kernel, size_t kernel_len, int32_t *output, size_t output_len, uint64_t *scratch,
                                       size_t scratch_len, size_t figures[3]);
 
@@ -131,8 +131,9 @@ WEMSTEKY_MUST_USE size_t wemsteky_levels(size_t shift, size_t bound, const int32
 WEMSTEKY_MUST_USE uint32_t wemsteky_noise(uint32_t seed, int16_t *map, size_t map_len);
 
 /* Checks 26 to 28, then the kernel of one layer that does what the first and then the second do: side K1 + K2 - 1, the first's C, the second's M.
- * Its weight at a place is the sum, over the channels between the two and over the pairs of places that add up to it, of the products. */
-WEMSTEKY_MUST_USE size_t wemsteky_join(const size_t first[14], const int16_t *first_kernel, size_t first_len, const size_t second[14],
+ * Its weight at a place is the sum, over the channels between the two and over the pairs of places that add up to it, of the products. below and
+ * beside are not looked at. */
+WEMSTEKY_MUST_USE size_t wemsteky_join(const size_t first[16], const int16_t *first_kernel, size_t first_len, const size_t second[16],
                                        const int16_t *second_kernel, size_t second_len, int16_t *joined, size_t joined_len);
 
 #ifdef __cplusplus

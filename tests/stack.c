@@ -71,7 +71,7 @@ static void *noise(void *with)
 
 static void *join(void *with)
 {
-    const size_t first[14] = {0, 4, 1, 2, 8, 8, 6, 1, 0, 1, 0, 0, 1, 1}, second[14] = {0, 4, 2, 2, 8, 8, 6, 1, 0, 1, 0, 0, 1, 1};
+    const size_t first[16] = {0, 4, 1, 2, 8, 8, 6, 1, 0, 1, 0, 0, 1, 1}, second[16] = {0, 4, 2, 2, 8, 8, 6, 1, 0, 1, 0, 0, 1, 1};
     memset(kernel, 0, sizeof kernel);
     answer = wemsteky_join(first, kernel, 72, second, kernel, 144, joined, 242);
     return with;
@@ -103,8 +103,8 @@ static void show(const char *name, void *(*routine)(void *), const void *with)
 int main(void)
 {
     const size_t four = 4, five = 5;
-    const size_t conv[2][14] = {{0, 4, 1, 2, SIDE, SIDE, 11, 1, 5, 1, 0, 0, SIDE, SIDE}, {0, 5, 1, 2, SIDE, SIDE, 11, 1, 5, 1, 0, 0, SIDE, SIDE}};
-    const size_t tconv[2][14] = {{1, 4, 1, 2, 16, 16, 4, 4, 0, 1, 0, 0, 64, 64}, {1, 5, 1, 2, 16, 16, 4, 4, 0, 1, 0, 0, 64, 64}};
+    const size_t conv[2][16] = {{0, 4, 1, 2, SIDE, SIDE, 11, 1, 5, 1, 0, 0, SIDE, SIDE}, {0, 5, 1, 2, SIDE, SIDE, 11, 1, 5, 1, 0, 0, SIDE, SIDE}};
+    const size_t tconv[2][16] = {{1, 4, 1, 2, 16, 16, 4, 4, 0, 1, 0, 0, 64, 64}, {1, 5, 1, 2, 16, 16, 4, 4, 0, 1, 0, 0, 64, 64}};
     show("wemsteky_plan", plan, conv[0]);
     show("wemsteky_run, CONV, field 4", run, conv[0]);
     show("wemsteky_run, CONV, field 5", run, conv[1]);

@@ -16,7 +16,7 @@ use Rattle.fermat.specs.Transform.{powerSum, transformAt}
 use Rattle.transform.specs.Answer.{transformCode, row, answered, transformed}
 use Rattle.layer.specs.Planned.{cropFits}
 use Rattle.layer.specs.declared.shape.Layer.{Layer}
-use Rattle.layer.specs.Shape.{outputCount, convSize, tconvSize, fullHeight, fullWidth, scratchWords, tileTotal}
+use Rattle.layer.specs.Shape.{outputCount, convSize, tconvSize, fullSize, fullHeight, fullWidth, scratchWords, tileTotal}
 use Rattle.layer.specs.Direct.{conv, tconv, fullAt, directAt, productSum}
 use Rattle.load.specs.Load.{sizeTotal, groupTotal, greatestGroup, load, loadsFit, withinPeak}
 use Rattle.checks.specs.Engine.{tileEngine}
@@ -171,6 +171,27 @@ cropped l top left rows columns = record {
   beside = l .beside;
 }
 
+-- the layer with so many rows and columns added, not cropped
+abbrev enlarged : (below beside : ℕ) → Layer → Layer
+enlarged below beside l = record {
+  kind = l .kind;
+  field = l .field;
+  inputs = l .inputs;
+  outputs = l .outputs;
+  height = l .height;
+  width = l .width;
+  side = l .side;
+  stride = l .stride;
+  padding = l .padding;
+  peak = l .peak;
+  top = 0;
+  left = 0;
+  rows = fullSize l (l .height) below;
+  columns = fullSize l (l .width) beside;
+  below = below;
+  beside = beside;
+}
+
 -- the layer from so many map channels to so many output channels
 abbrev pub channels : (inputs outputs : ℕ) → Layer → Layer
 channels inputs outputs l = record {
@@ -208,7 +229,7 @@ layers =
     frame (CONV 4 3 4 2 2 1 12) upTo12 G (positive (4 ∷ 18 ∷ 12 ∷ 46 ∷ 94 ∷ 44 ∷ []))
     ∷ frame (cropped (CONV 4 3 4 2 2 1 12) 1 0 1 2) upTo12 G (positive (46 ∷ 94 ∷ []))
     ∷ frame (cropped (TCONV 4 2 3 3 3 1 6) 2 5 2 2) (pos 1 ∷ minus 2 ∷ pos 3 ∷ pos 4 ∷ pos 5 ∷ minus 6 ∷ [])
-    (positive (1 ∷ 2 ∷ 3 ∷ 4 ∷ 5 ∷ 6 ∷ 7 ∷ 8 ∷ 9 ∷ [])) (minus 6 ∷ minus 12 ∷ minus 24 ∷ minus 30 ∷ [])
+    X (minus 6 ∷ minus 12 ∷ minus 24 ∷ minus 30 ∷ [])
     -- the kernel's outer and inner channels change parts between the kinds
     ∷ frame (two 0 8) upTo8 (positive (1 ∷ 10 ∷ 100 ∷ 1000 ∷ [])) (positive (51 ∷ 62 ∷ 73 ∷ 84 ∷ 5100 ∷ 6200 ∷ 7300 ∷ 8400 ∷ []))
     ∷ frame (two 1 8) upTo8 (positive (1 ∷ 10 ∷ 100 ∷ 1000 ∷ [])) (positive (501 ∷ 602 ∷ 703 ∷ 804 ∷ 5010 ∷ 6020 ∷ 7030 ∷ 8040 ∷ []))
@@ -218,6 +239,13 @@ layers =
     ∷ plan (cropped (CONV 4 8 8 3 1 0 1) 0 0 7 6) 9
     ∷ run (CONV 5 1 1 1 1 0 32767) (pos 1 ∷ []) (pos 1 ∷ []) 0
     ∷ run (CONV 5 1 1 1 1 0 32768) (pos 1 ∷ []) (pos 1 ∷ []) 14
+    -- what is added: with padding it need not be 0; it is added before the sum is held to 1; 23 comes before 8
+    ∷ frame (enlarged 1 1 (TCONV 4 1 1 3 2 1 1)) (pos 1 ∷ []) X (positive (5 ∷ 6 ∷ 8 ∷ 9 ∷ []))
+    ∷ frame (enlarged 0 1 (TCONV 4 1 1 2 2 0 1)) (pos 1 ∷ []) G (positive (1 ∷ 2 ∷ 0 ∷ 3 ∷ 4 ∷ 0 ∷ []))
+    ∷ plan (enlarged 1 0 (TCONV 4 1 9 3 2 2 1)) 8
+    ∷ plan (enlarged 2 0 (TCONV 4 1 9 3 3 2 1)) 0
+    ∷ plan (enlarged 1 0 (TCONV 4 1 9 3 1 2 1)) 23
+    ∷ plan (enlarged 0 1 (CONV 4 8 8 3 2 0 1)) 23
     -- wanted rows stand S apart: 31 of them span 61 rows of the grid, three tiles of 30; 30 span 59, two tiles
     ∷ tiles (CONV 4 64 8 3 2 0 1) 3
     ∷ tiles (CONV 4 62 8 3 2 0 1) 2
