@@ -1,4 +1,4 @@
--- `grid_start` is the sum of its contract: at most 2,055 × 4 and 8,280 × 64.
+-- `grid_start` is the sum of its contract: at most 2,058 × 4 and 8,292 × 64.
 use mathlib.Core.Path.{ap₂}
 use Prim.Native.Nat.{ℕ, _+_, _*_, _≤_}
 use native.Mathlib.Nat.{mul-le-mul}

@@ -1,4 +1,4 @@
--- `span_of` makes the test of `span`; the product is at most 8,216.
+-- `span_of` makes the test of `span`; the product is at most 8,228.
 use native.Mathlib.Omega.{arith}
 use borrow.Author.Needs.{needs}
 use borrow.Author.Tests.{eq-eqb, ne-eqb}

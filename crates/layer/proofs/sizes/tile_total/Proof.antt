@@ -1,4 +1,4 @@
--- `tile_total` is the product of `tileTotal`: at most 64 channels, 8,280 tile rows and 8,280 tile columns.
+-- `tile_total` is the product of `tileTotal`: at most 64 channels, 8,292 tile rows and 8,292 tile columns.
 use mathlib.Core.Path.{ap, ap₂}
 use Prim.Native.Nat.{_*_, _≤_}
 use native.Mathlib.Nat.{mul-le-mul}
