@@ -47,6 +47,7 @@ module _ {first second : Layer} (pair : Pair first second) where
     middle-count : middle ≡ size - first .side + 1
     middle-count = along .is ∙ filter-count first (pair .first-filter) size added (along .first-fits)
 
+    -- `more` is what the second layer adds, which makes no difference in CONV
     outputs-count : (more : ℕ) → fullSize second middle more ≡ middle - second .side + 1
     outputs-count more = filter-count second (pair .second-filter) middle more (along .second-fits)
 

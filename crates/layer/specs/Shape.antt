@@ -34,6 +34,7 @@ convSize extent side stride padding = (extent + 2 * padding - side) / stride + 1
 unfoldable pub tconvSize : (extent side stride padding added : ℕ) → ℕ
 tconvSize extent side stride padding added = (extent - 1) * stride + side + added - 2 * padding
 
+-- by kind; nothing is added in CONV
 abbrev pub fullSize : Layer → (extent added : ℕ) → ℕ
 fullSize l extent added =
     cond (isConv l) (convSize extent (l .side) (l .stride) (l .padding)) (tconvSize extent (l .side) (l .stride) (l .padding) added)
