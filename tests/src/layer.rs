@@ -32,7 +32,6 @@ impl Layer {
     pub fn of(numbers: [usize; 14]) -> Layer {
         let [kind, field, inputs, outputs, height, width, side, stride, padding, peak, top, left, rows, columns] =
             numbers;
-        let (below, beside) = (0, 0);
         Layer {
             kind,
             field,
@@ -48,8 +47,7 @@ impl Layer {
             left,
             rows,
             columns,
-            below,
-            beside,
+            ..Layer::default()
         }
     }
 
