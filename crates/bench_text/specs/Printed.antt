@@ -59,7 +59,7 @@ headerReads words = leb 14 (length words) && everyWord isFigure (take 14 words)
 abbrev pub headerLayer : List (List ℕ) → Layer
 headerLayer words = layerOf (figuresOf (take 14 words) ++ (0 ∷ 0 ∷ []))
 
--- after a header that the checks 1 to 9 accept
+-- after a header that the planner accepts
 abbrev pub bodyPrinted : Layer → (long : Bool) → (body : List (List ℕ)) → List ℕ
 bodyPrinted l long body = cond (small l && not long && bodyReads l body) (ran l (mapOf l body) (kernelOf l body)) unreadable
 

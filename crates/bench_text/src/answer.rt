@@ -97,7 +97,7 @@ fn put_read(
     put_run(lines, layer, map, kernel)
 }
 
-// The lines after a header that the checks 1 to 9 accept.
+// The lines after a header that the planner accepts.
 fn put_body(lines: &mut [u8], layer: Layer, text: &[u8], at: usize) -> usize
     requires { ⌜ Planned layer × (at ≤ length (now text)) × (length (now lines) ≡ 16384) ⌝ }
     ensures { λ r. ⌜ Appended 0 (bodyPrinted layer false (wordsOf false (drop at (now (text .entry))))) (now (lines .entry)) (now (lines .exit)) r ⌝ }

@@ -1,4 +1,4 @@
--- What the rules 1 to 16 give of a layer and of what a call lends. The contracts of what finishes parts ask for it.
+-- What the rules of a run give of a layer and of what a call lends. The contracts of what finishes parts ask for it.
 use mathlib.Core.Path.{_≡_}
 use mathlib.Core.Bool.{true}
 use mathlib.Core.List.{List}

@@ -100,7 +100,7 @@ module _ (engine : Engine) (l : Layer) (map kernel : List ℤ) (output scratch :
       last-holds last (rule number true ∷ rules) = last-holds last rules
       last-holds last (rule number false ∷ rules) = refl
 
-  -- a run makes the checks 1 to 16, since no index is below 0
+  -- a run makes the checks of a job but the last, since no index is below 0
   pub run-code : jobCode engine l 0 map kernel output scratch ≡ runCode engine l map kernel output scratch
   run-code = index-passes 0 (omega arith)
 
@@ -127,7 +127,7 @@ module _ (engine : Engine) (l : Layer) (map kernel : List ℤ) (output scratch :
           loads = loads;
         }
 
-    -- what the rules 1 to 17 give
+    -- what the rules of a job give
     pub job-callable : (next : ℕ) → jobCode engine l next map kernel output scratch ≡ 0
         → Callable engine l map kernel output scratch × (next ≤ engine .total l)
     job-callable next e = let (run, low) = job-runs next e in (callable run, low)

@@ -1,4 +1,4 @@
-// The checks of a call, in table order: 1 to 9 as the planner makes them, 10 to 16 of what is lent, 17 of the job's index.
+// The checks of a call, in table order: those of the planner, 10 to 16 of what is lent, 17 of the job's index.
 use crate::planner::plan_code;
 use base::rules;
 use layer::shape::Layer;
@@ -37,7 +37,7 @@ fn values_code(layer: Layer, map: &[i16], kernel: &[i16]) -> usize
     rules::next(0, 16, loads_fit(layer, kernel))
 }
 
-// The first of the rules 1 to 17 that is broken, or 0.
+// The first rule of a job that is broken, or 0.
 pub fn job_code(
     layer: Layer,
     next: usize,

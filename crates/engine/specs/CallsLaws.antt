@@ -144,7 +144,7 @@ module _ (engine : Engine) (l : Layer) (map kernel first : List ℤ) where
       rw (← (add-assoc budgets budget (acceptedBudgets calls)))
       (after-calls (budgets + budget) calls rest (after-call budgets call lent (rw (job, output) before)))
 
--- the checks 1 to 16 pass with scratch of some length
+-- the checks of a run pass with scratch of some length
 pub record Passes (engine : Engine) (l : Layer) (map kernel : List ℤ) (output : ℕ) : Type 0 where
   pub scratch : ℕ
   pub callable : Callable engine l map kernel output scratch
@@ -188,7 +188,7 @@ module _ {engine : Engine} {l : Layer} {map kernel : List ℤ} (list : JobCalls 
   calls-output = after .written
 
   module _ (lawful : Lawful engine) where
-    -- where a call was accepted, the checks 1 to 16 pass
+    -- where a call was accepted, the checks of a run pass
     pub calls-callable : 0 < acceptedCalls (list .calls) → Passes engine l map kernel (length (list .first))
     calls-callable some = passes lawful (startOf l) (list .first) (list .calls) (list .chained) some
 

@@ -109,13 +109,16 @@ product-sums one-lawful other-lawful {conv = l} {x = x} {y} {kernel} paired us v
     ∙ product-cong (l .inputs) (l .height) (l .width) _ _ _ _ (λ c i j _ _ _. refl)
     (λ c i j k h w. sym (tconv-cell paired other-lawful vs v-reaches plan c i j k h w))
 
+-- where S divides, it leaves nothing, and nothing is added
+pub evenly-paired : {conv tconv : Layer} → EvenlyPaired conv tconv → Paired conv tconv
+evenly-paired even = record {
+  matched = even .matched;
+  rows-added = even .no-rows-added ∙ sym (even .rows-divided);
+  columns-added = even .no-columns-added ∙ sym (even .columns-divided);
+}
+
 -- 01's demand 3, in its own words: the stride divides, and no rows or columns are added
 pub product-sums-evenly : {one other : Engine} → Lawful one → Lawful other → {conv tconv : Layer} {x y kernel : List ℤ} → EvenlyPaired conv tconv
     → (us : JobCalls one conv x kernel) (vs : JobCalls other tconv y kernel) → Reaches us → Reaches vs
     → SumsAgree conv x y (outputOf us) (outputOf vs)
-product-sums-evenly one-lawful other-lawful even =
-    product-sums one-lawful other-lawful (record {
-      matched = even .matched;
-      rows-added = even .no-rows-added ∙ sym (even .rows-divided);
-      columns-added = even .no-columns-added ∙ sym (even .columns-divided);
-    })
+product-sums-evenly one-lawful other-lawful even = product-sums one-lawful other-lawful (evenly-paired even)

@@ -22,7 +22,7 @@ use Rattle.tile.proofs.Finishing.{At, finished}
 use Rattle.tile.proofs.finish.finish_tile.Statement.{statement}
 use Rattle.tile.proofs.finish.finish_tile.Tie as tie
 
--- what rules 1 to 9 give
+-- what the planner's rules give
 plan : (s : tie.Start) → Planned (s .args .layer)
 plan s = s .pre .0 .0 .plan
 
