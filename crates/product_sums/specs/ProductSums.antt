@@ -8,7 +8,7 @@ use Rattle.layer.specs.declared.shape.Layer.{Layer}
 use Rattle.layer.specs.Shape.{fullHeight, fullWidth}
 use Rattle.layer.specs.Direct.{productSum}
 
--- top and left are 0, and h and w are the full output size
+-- top and left are 0, and h and w are the full output size, with what is added
 pub record NotCropped (l : Layer) : Type 0 where
   pub top : l .top ≡ 0
   pub left : l .left ≡ 0
