@@ -12,8 +12,7 @@ use Rattle.algebra.specs.Greatest.{greatest}
 use Rattle.algebra.specs.Places.{table}
 use Rattle.base.specs.Number.{ceilingDiv}
 use Rattle.base.specs.Rules.{inside}
-use Rattle.fermat.specs.Transform.{powerSum, transformAt}
-use Rattle.transform.specs.Answer.{transformCode, row, answered, transformed}
+use Rattle.fermat.specs.Transform.{powerSum, transformAt, transformIn}
 use Rattle.layer.specs.Planned.{cropFits}
 use Rattle.layer.specs.declared.shape.Layer.{Layer}
 use Rattle.layer.specs.Shape.{outputCount, convSize, tconvSize, fullSize, fullHeight, fullWidth, scratchWords, tileTotal}
@@ -35,7 +34,7 @@ pub data Claim : Type 0 where
   run : Layer → (map kernel : List ℤ) → ℕ → Claim
   -- a layer has this many tiles
   tiles : Layer → ℕ → Claim
-  -- the transform of the words has this entry at this place
+  -- the transform of the words in the field has this entry at this place
   entry : (field : ℕ) → (words : List ℕ) → (place value : ℕ) → Claim
 
 abbrev equal : ℤ → ℤ → Bool
@@ -62,7 +61,7 @@ holds (products forward backward x y kernel value) = equal (against forward x ke
 holds (plan l number) = eqb (planCode tileEngine l) number
 holds (run l map kernel number) = eqb (code l map kernel) number
 holds (tiles l total) = eqb (tileTotal l) total
-holds (entry field words place value) = eqb (getD (transformed field words) place 0) value
+holds (entry field words place value) = eqb (transformIn field (λ n. getD words n 0) place) value
 
 pub allHold : List Claim → Bool
 allHold [] = true
@@ -255,7 +254,7 @@ layers =
 pub charts-hold : T (allHold charts)
 unfolding allHold charts holds table convSize tconvSize fullAt conv tconv directAt productSum sum sumZ
     planCode runCode inside cropFits withinPeak loadsFit load sizeTotal groupTotal greatestGroup greatest tileTotal ceilingDiv
-    answered transformCode row transformAt powerSum
+    transformAt powerSum
 charts-hold = tt
 
 -- and every claim of our own
