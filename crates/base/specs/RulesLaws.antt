@@ -5,7 +5,7 @@ use mathlib.Core.Bool.{Bool, true, false, cond, _&&_}
 use mathlib.Core.List.{List, [], _∷_, _++_}
 use Prim.Native.Nat.{ℕ, zero, suc, _<_, _≤_}
 use native.Mathlib.Omega.{arith}
-use lib.Dec.{T, leb, ltb, ltb→lt}
+use lib.Dec.{T, eqb, leb, ltb, ltb→lt}
 use mir.Facts.{and-yes}
 use borrow.Author.Tests.{leb-true, le-leb}
 use Rattle.algebra.specs.EveryLaws.{both-true}
@@ -50,6 +50,43 @@ rule-by-rule (rule (suc number) false ∷ rules) n = stays number rules
     stays : (code : ℕ) (rules : List Rule) → checked (suc code) rules ≡ suc code
     stays code [] = refl
     stays code (rule number holds ∷ rules) = stays code rules
+
+-- a code after rules, the last rule first; `test` is what the code found of a rule
+pub data After : List Rule → ℕ → Type 0 where
+  no-rule : After [] 0
+  next-rule : {before code number : ℕ} {test holds : Bool} {rules : List Rule} → code ≡ nextCode before number test → test ≡ holds →
+      After rules before → After (rule number holds ∷ rules) code
+
+-- what the code found, where a part of the test is what a call answered
+pub both-tests : {a b x y : Bool} → a ≡ x → b ≡ y → (a && b) ≡ (x && y)
+both-tests e f = ap₂ _&&_ e f
+
+pub equal-tests : (x a b : ℕ) → a ≡ b → eqb x a ≡ eqb x b
+equal-tests x a b e = ap (eqb x) e
+
+pub most-tests : (x a b : ℕ) → a ≡ b → leb a x ≡ leb b x
+most-tests x a b e = ap (λ (n : ℕ). leb n x) e
+
+-- by these `search` finds that a code is the one after rules
+pub ruleset rule-steps = (no-rule, next-rule, both-tests, equal-tests, most-tests)
+
+-- the rules in the opposite order, before others
+abbrev pub turned : (rules others : List Rule) → List Rule
+turned [] others = others
+turned (first ∷ rules) others = turned rules (first ∷ others)
+
+-- the code after a list of rules
+pub in-order : (rules : List Rule) → T (numbered rules) → {code : ℕ} → After (turned rules []) code → code ≡ firstBroken rules
+in-order rules n after = goes-through after [] ∙ ap (checked 0) (twice rules []) ∙ rule-by-rule rules n
+  where
+    goes-through : {done : List Rule} {code : ℕ} → After done code → (rules : List Rule) → checked code rules ≡ checked 0 (turned done rules)
+    goes-through no-rule rules = refl
+    goes-through (next-rule {before = before} {number = number} {holds = holds} e t after) rules =
+        ap (λ (code : ℕ). checked code rules) (e ∙ ap (nextCode before number) t) ∙ goes-through after (rule number holds ∷ rules)
+
+    twice : (rules done : List Rule) → turned (turned rules done) [] ≡ turned done rules
+    twice [] done = refl
+    twice (first ∷ rules) done = twice rules (first ∷ done)
 
 -- one rule alone; `test` is what the code found
 pub one-rule : (number : ℕ) {code : ℕ} {test holds : Bool} → code ≡ nextCode 0 number test → test ≡ holds → code ≡ firstBroken (rule number holds ∷ [])

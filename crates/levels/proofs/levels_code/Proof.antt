@@ -1,6 +1,6 @@
 -- `levels_code` goes through `levelsRules`, rule by rule.
 use borrow.Author.Needs.{needs}
-use Rattle.base.specs.RulesLaws.{rule-by-rule}
+use Rattle.base.specs.RulesLaws.{in-order, rule-steps}
 use Rattle.levels.specs.Answer.{levelsRules, levelsCode}
 use Rattle.levels.proofs.levels_code.Statement.{statement}
 use Rattle.levels.proofs.levels_code.Tie as tie
@@ -22,7 +22,10 @@ next-requires-3 c κs = search needs
 
 returns : tie.Need-returns
 unfolding levelsCode
-returns c = cc (rule-by-rule (levelsRules _ _ _ _) tt)
+returns c =
+    let start : tie.Start = search in
+    let a = start .args in
+    in-order (levelsRules (a .shift) (a .bound) (a .count) (a .room)) tt (search rule-steps depth 20)
 
 pub levels-code-spec : {M : Type 1} → statement M
 levels-code-spec = tie.close (tie.spec is-inside-requires next-requires is-inside-requires-2 next-requires-2 next-requires-3 returns)

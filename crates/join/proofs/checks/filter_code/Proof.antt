@@ -4,17 +4,17 @@ use native.Mathlib.Omega.{arith}
 use borrow.Author.Needs.{needs}
 use lib.Dec.{eqb}
 use Rattle.base.specs.Rules.{firstBroken}
-use Rattle.base.specs.RulesLaws.{none-broken, rule-by-rule, one-rule, first-answers, goes-on, inside-high}
+use Rattle.base.specs.RulesLaws.{none-broken, in-order, rule-steps, one-rule, first-answers, goes-on, inside-high}
 use Rattle.join.specs.Answer.{figureRules, countRules}
 use Rattle.join.proofs.checks.filter_code.Statement.{statement}
 use Rattle.join.proofs.checks.filter_code.Tie as tie
 
 -- the call, at the end of the rules of the figures
 abbrev start : tie.After-next6 → tie.Start
-start c = c .before .before .before .before .before .before .before .before .before .before .before .before
+start c = search
 
 figure-code : (c : tie.After-next6) → c .next6 .result ≡ firstBroken (figureRules (start c .args .layer))
-figure-code c = cc (rule-by-rule (figureRules (start c .args .layer)) tt)
+figure-code c = in-order (figureRules (start c .args .layer)) tt (search rule-steps depth 20)
 
 next-requires : tie.Need-next-requires
 next-requires c κs = search needs
