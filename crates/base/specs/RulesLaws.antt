@@ -52,10 +52,10 @@ rule-by-rule (rule (suc number) false ∷ rules) n = stays number rules
     stays code (rule number holds ∷ rules) = stays code rules
 
 -- a code after rules, the last rule first; `test` is what the code found of a rule
-pub data After : List Rule → ℕ → Type 0 where
-  no-rule : After [] 0
+pub data CodeAfter : List Rule → ℕ → Type 0 where
+  no-rule : CodeAfter [] 0
   next-rule : {before code number : ℕ} {test holds : Bool} {rules : List Rule} → code ≡ nextCode before number test → test ≡ holds →
-      After rules before → After (rule number holds ∷ rules) code
+      CodeAfter rules before → CodeAfter (rule number holds ∷ rules) code
 
 -- what the code found, where a part of the test is what a call answered
 pub both-tests : {a b x y : Bool} → a ≡ x → b ≡ y → (a && b) ≡ (x && y)
@@ -71,20 +71,20 @@ most-tests x a b e = ap (λ (n : ℕ). leb n x) e
 pub ruleset rule-steps = (no-rule, next-rule, both-tests, equal-tests, most-tests)
 
 -- the rules in the opposite order, before others
-abbrev pub turned : (rules others : List Rule) → List Rule
-turned [] others = others
-turned (first ∷ rules) others = turned rules (first ∷ others)
+abbrev pub reversed : (rules others : List Rule) → List Rule
+reversed [] others = others
+reversed (first ∷ rules) others = reversed rules (first ∷ others)
 
 -- the code after a list of rules
-pub in-order : (rules : List Rule) → T (numbered rules) → {code : ℕ} → After (turned rules []) code → code ≡ firstBroken rules
+pub in-order : (rules : List Rule) → T (numbered rules) → {code : ℕ} → CodeAfter (reversed rules []) code → code ≡ firstBroken rules
 in-order rules n after = goes-through after [] ∙ ap (checked 0) (twice rules []) ∙ rule-by-rule rules n
   where
-    goes-through : {done : List Rule} {code : ℕ} → After done code → (rules : List Rule) → checked code rules ≡ checked 0 (turned done rules)
+    goes-through : {done : List Rule} {code : ℕ} → CodeAfter done code → (rules : List Rule) → checked code rules ≡ checked 0 (reversed done rules)
     goes-through no-rule rules = refl
     goes-through (next-rule {before = before} {number = number} {holds = holds} e t after) rules =
         ap (λ (code : ℕ). checked code rules) (e ∙ ap (nextCode before number) t) ∙ goes-through after (rule number holds ∷ rules)
 
-    twice : (rules done : List Rule) → turned (turned rules done) [] ≡ turned done rules
+    twice : (rules done : List Rule) → reversed (reversed rules done) [] ≡ reversed done rules
     twice [] done = refl
     twice (first ∷ rules) done = twice rules (first ∷ done)
 

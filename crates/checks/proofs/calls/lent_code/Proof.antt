@@ -1,6 +1,7 @@
 -- `lent_code` goes through `lentRules`, rule by rule.
 use borrow.Author.Needs.{needs}
-use Rattle.base.specs.RulesLaws.{rule-by-rule}
+use Rattle.base.specs.RulesLaws.{in-order, rule-steps}
+use Rattle.layer.specs.Shape.{scratchWords}
 use Rattle.checks.specs.Checks.{lentRules}
 use Rattle.checks.proofs.calls.lent_code.Statement.{statement}
 use Rattle.checks.proofs.calls.lent_code.Tie as tie
@@ -36,7 +37,10 @@ next-requires-5 : tie.Need-next-requires-5
 next-requires-5 c κs = search needs
 
 returns : tie.Need-returns
-returns c = cc (rule-by-rule (lentRules _ _ _ _ _ _) tt)
+returns c =
+    let start : tie.Start = search in
+    let a = start .args in
+    in-order (lentRules (scratchWords (a .layer)) (a .layer) (a .map .now) (a .kernel .now) (a .output) (a .scratch)) tt (search rule-steps depth 20)
 
 pub lent-code-spec : {M : Type 1} → statement M
 lent-code-spec =

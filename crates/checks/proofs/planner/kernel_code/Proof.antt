@@ -1,6 +1,6 @@
 -- `kernel_code` goes through `kernelRules`, rule by rule.
 use borrow.Author.Needs.{needs}
-use Rattle.base.specs.RulesLaws.{rule-by-rule}
+use Rattle.base.specs.RulesLaws.{in-order, rule-steps}
 use Rattle.checks.specs.Checks.{kernelRules}
 use Rattle.checks.proofs.planner.kernel_code.Statement.{statement}
 use Rattle.checks.proofs.planner.kernel_code.Tie as tie
@@ -30,7 +30,7 @@ next-requires-4 : tie.Need-next-requires-4
 next-requires-4 c κs = search needs
 
 returns : tie.Need-returns
-returns c = cc (rule-by-rule (kernelRules _) tt)
+returns c = let start : tie.Start = search in in-order (kernelRules (start .args .layer)) tt (search rule-steps depth 20)
 
 pub kernel-code-spec : {M : Type 1} → statement M
 kernel-code-spec =

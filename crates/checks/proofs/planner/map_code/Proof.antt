@@ -1,6 +1,6 @@
 -- `map_code` goes through `mapRules`, rule by rule.
 use borrow.Author.Needs.{needs}
-use Rattle.base.specs.RulesLaws.{rule-by-rule}
+use Rattle.base.specs.RulesLaws.{in-order, rule-steps}
 use Rattle.checks.specs.Checks.{mapRules}
 use Rattle.checks.proofs.planner.map_code.Statement.{statement}
 use Rattle.checks.proofs.planner.map_code.Tie as tie
@@ -36,7 +36,7 @@ next-requires-4 : tie.Need-next-requires-4
 next-requires-4 c κs = search needs
 
 returns : tie.Need-returns
-returns c = cc (rule-by-rule (mapRules 5 _) tt)
+returns c = let start : tie.Start = search in in-order (mapRules 5 (start .args .layer)) tt (search rule-steps depth 20)
 
 pub map-code-spec : {M : Type 1} → statement M
 map-code-spec =
