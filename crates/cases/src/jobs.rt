@@ -21,37 +21,25 @@ fn stop(job: Job, budget: usize, map: &[i16], kernel: &[i16], output: &mut [i32]
         progress.done as u64,
     ];
     line(b"budget # code # count # next # done # \n", &answer);
-    let columns = progress.job.layer.columns;
-    if 0 < columns {
-        print::rows(output, columns);
-    }
+    print::rows(output, progress.job.layer.columns);
     progress.job
 }
 
-// A whole job: none of its tiles, one, one in a call without a map, two, all that are left, and one more when all is done.
-fn in_budgets(start: Job, map: &[i16], kernel: &[i16], output: &mut [i32])
+// A whole job: none of its tiles, one, one in a call without a map, two, all that are left, and one more when all is done. Then a job whose
+// index is above the total.
+fn in_budgets(layer: Layer, map: &[i16], kernel: &[i16], output: &mut [i32])
     requires { ⌜ length (now output) ≤ 1024 ⌝ }
 {
     let budgets = [0usize, 1, 1, 2, 18446744073709551615, 1];
-    let mut job = start;
+    let mut job = Job::new(layer);
     let mut i = 0;
     while i < 6 {
         let values = if i == 2 { 0 } else { map.len() };
         job = stop(job, budgets[i], &map[0..values], kernel, output);
         i += 1;
     }
-}
-
-// A whole job in budgets, and then one whose index is above the total.
-fn run_layer(layer: Layer, map: &[i16], kernel: &[i16], output: &mut [i32])
-    requires { ⌜ length (now output) ≤ 1024 ⌝ }
-{
-    in_budgets(Job::new(layer), map, kernel, output);
-    let beyond = Job {
-        layer: layer,
-        next: 18446744073709551615,
-    };
-    stop(beyond, 1, map, kernel, output);
+    job.next = 18446744073709551615;
+    stop(job, 1, map, kernel, output);
 }
 
 // CONV in F_4, cropped to 2 rows of 8: 2 channels, 4 tiles.
@@ -79,7 +67,7 @@ fn conv() {
     let mut output = [7i32; 32];
     let seed = draw_values(&mut map, 100, 1);
     draw_values(&mut kernel, 1, seed);
-    run_layer(layer, &map, &kernel, &mut output);
+    in_budgets(layer, &map, &kernel, &mut output);
 }
 
 // TCONV in F_5, cropped to 1 row of 70: 2 channels, 4 tiles.
@@ -107,7 +95,7 @@ fn tconv() {
     let mut output = [7i32; 140];
     let seed = draw_values(&mut map, 1000, 2);
     draw_values(&mut kernel, 1000, seed);
-    run_layer(layer, &map, &kernel, &mut output);
+    in_budgets(layer, &map, &kernel, &mut output);
 }
 
 pub fn run() {

@@ -1,4 +1,4 @@
--- Six calls; the output keeps its length.
+-- Six calls and one more; the output keeps its length.
 use mathlib.Core.Path.{_≡_}
 use mathlib.Core.Logic.{⊎-elim}
 use Prim.Native.Nat.{_-_, _≤_}
@@ -13,6 +13,9 @@ Inv-loop map kernel output₀ budgets job₀ i₀ output job i = (i ≤ 6) × (l
 
 abbrev μ-loop : tie.MeasureT-loop
 μ-loop map kernel output₀ budgets job₀ i₀ output job i = 6 - i
+
+new-requires : tie.Need-new-requires Inv-loop μ-loop
+new-requires c κs = search needs
 
 loop-holds : tie.Need-loop-holds Inv-loop μ-loop
 loop-holds c = search needs
@@ -44,6 +47,9 @@ loop-less c = search needs
 loop-again : tie.Need-loop-again Inv-loop μ-loop
 loop-again c = search needs
 
+stop-requires-2 : tie.Need-stop-requires-2 Inv-loop μ-loop
+stop-requires-2 c κs = search needs
+
 same-length : tie.Need-same-length Inv-loop μ-loop
 same-length c = search needs
 
@@ -56,6 +62,7 @@ in-budgets-spec =
     (tie.spec
     Inv-loop
     μ-loop
+    new-requires
     loop-holds
     mul-stop
     array-read-stop
@@ -66,5 +73,6 @@ in-budgets-spec =
     add-i
     loop-less
     loop-again
+    stop-requires-2
     same-length
     returns)

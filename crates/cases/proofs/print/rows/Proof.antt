@@ -6,6 +6,9 @@ use Rattle.lines.specs.WritingLaws.{append-within}
 use Rattle.cases.proofs.print.rows.Statement.{statement}
 use Rattle.cases.proofs.print.rows.Tie as tie
 
+returns : tie.Need-returns
+returns c = search needs
+
 slice-aggregate-put-rows : tie.Need-slice-aggregate-put-rows
 slice-aggregate-put-rows c = search needs
 
@@ -21,10 +24,10 @@ slice-aggregate-write-all c = sym (length-take-le _ _ (append-within (c .before 
 write-all-requires : tie.Need-write-all-requires
 write-all-requires c κs = search needs
 
-returns : tie.Need-returns
-returns c = search needs
+returns-2 : tie.Need-returns-2
+returns-2 c = search needs
 
 pub rows-spec : {M : Type 1} → statement M
 rows-spec =
     tie.close
-    (tie.spec slice-aggregate-put-rows put-rows-requires array-share-prefix-lines slice-aggregate-write-all write-all-requires returns)
+    (tie.spec returns slice-aggregate-put-rows put-rows-requires array-share-prefix-lines slice-aggregate-write-all write-all-requires returns-2)
