@@ -64,18 +64,23 @@ fn print_words(words: &[u64]) {
     io::write_all(STDOUT_FILENO, b"\n");
 }
 
-// One vector, its transform and its inverse. The inverse is taken twice: the first undoes the transform.
+// The transform of the words and their inverse. The inverse is taken twice: the first undoes the transform.
+fn print_pair(field: usize, words: &mut [u64]) {
+    transform::transform(field, words);
+    print_words(words);
+    transform::inverse(field, words);
+    transform::inverse(field, words);
+    print_words(words);
+}
+
+// One vector, its transform and its inverse.
 fn run_vector(field: usize, words: &mut [u64], number: u64, seed: u64) -> u64
     requires { ⌜ 1 < length (now words) ⌝ }
 {
     let state = vector(words, number, modulus(field), seed);
     line(b"field # vector #\n", &[field as u64, number]);
     print_words(words);
-    transform::transform(field, words);
-    print_words(words);
-    transform::inverse(field, words);
-    transform::inverse(field, words);
-    print_words(words);
+    print_pair(field, words);
     state
 }
 
@@ -98,9 +103,8 @@ fn set_last(words: &mut [u64], word: u64) {
     words[last] = word;
 }
 
-// Calls on words 7, the last of which is `word`: the answers of both routines, and the words that they leave.
+// Calls on words, the last of which becomes `word`: the answers of both routines, and the words that they leave.
 fn refuse(field: usize, words: &mut [u64], word: u64) {
-    fill(words, 7);
     set_last(words, word);
     let code = transform::transform(field, words);
     let again = transform::inverse(field, words);
@@ -108,11 +112,11 @@ fn refuse(field: usize, words: &mut [u64], word: u64) {
     print_words(words);
 }
 
-// The same on the first `len` of 64 words.
+// The same on the first `len` of 64 words 7.
 fn refuse_first(field: usize, len: usize, word: u64)
     requires { ⌜ len ≤ 64 ⌝ }
 {
-    let mut words = [0u64; 64];
+    let mut words = [7u64; 64];
     refuse(field, &mut words[..len], word);
 }
 
