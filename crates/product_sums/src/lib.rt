@@ -28,13 +28,13 @@ fn three_calls(
     ensures { λ r. ⌜ CallsMade tileEngine layer (now (map .entry)) (now (kernel .entry)) (now (output .entry)) (now (output .exit)) r ⌝ }
 {
     let plan = planner::plan(layer);
-    let job = Job::new(layer);
-    let first = job.advance(budget, map, kernel, output, scratch);
-    let after_first = first.job;
-    let second = after_first.advance(budget, &map[0..0], kernel, output, scratch);
-    let after_second = second.job;
-    let third = after_second.advance(plan.tiles, map, kernel, output, scratch);
-    third.code == 0
+    let mut job = Job::new(layer);
+    let mut call = job.advance(budget, map, kernel, output, scratch);
+    job = call.job;
+    call = job.advance(budget, &map[0..0], kernel, output, scratch);
+    job = call.job;
+    call = job.advance(plan.tiles, map, kernel, output, scratch);
+    call.code == 0
 }
 
 // Both kinds, with one kernel: three calls of each. Whether both layers are accepted; then both lists reach their totals, and the two sums of
