@@ -105,6 +105,7 @@ int main(void)
     const size_t four = 4, five = 5;
     const size_t conv[2][16] = {{0, 4, 1, 2, SIDE, SIDE, 11, 1, 5, 1, 0, 0, SIDE, SIDE}, {0, 5, 1, 2, SIDE, SIDE, 11, 1, 5, 1, 0, 0, SIDE, SIDE}};
     const size_t tconv[2][16] = {{1, 4, 1, 2, 16, 16, 4, 4, 0, 1, 0, 0, 64, 64}, {1, 5, 1, 2, 16, 16, 4, 4, 0, 1, 0, 0, 64, 64}};
+    for (size_t i = 0; i < sizeof kernel / sizeof *kernel; i++) kernel[i] = 1; /* no blank channel */
     show("wemsteky_plan", plan, conv[0]);
     show("wemsteky_run, CONV, field 4", run, conv[0]);
     show("wemsteky_run, CONV, field 5", run, conv[1]);

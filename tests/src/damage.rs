@@ -1,7 +1,7 @@
 //! Ways to break a rule of a call that every rule accepts.
 
 use crate::call::Call;
-use crate::draw::{any_layer, top_up};
+use crate::draw::{any_layer, blank_channel, top_up};
 use crate::groups::{groups, set_group};
 use crate::layer::{Layer, CONV};
 use crate::random::Random;
@@ -117,7 +117,7 @@ fn one_too_few(layer: Layer) -> (usize, Layer) {
     }
 }
 
-const LENT: [Entry; 20] = [
+const LENT: [Entry; 24] = [
     (10, "map one short", |call| call.map.truncate(call.map.len() - 1)),
     (10, "map one long", |call| call.map.push(0)),
     (10, "no map", |call| call.map = Vec::new()),
@@ -135,6 +135,10 @@ const LENT: [Entry; 20] = [
         let middle = call.map.len() / 2;
         call.map[middle] = i16::MIN;
     }),
+    (24, "first channel blank", |call| blank_channel(&call.layer, &mut call.kernel, 0)),
+    (24, "middle channel blank", |call| blank_channel(&call.layer, &mut call.kernel, call.layer.outputs / 2)),
+    (24, "last channel blank", |call| blank_channel(&call.layer, &mut call.kernel, call.layer.outputs - 1)),
+    (24, "every channel blank", |call| call.kernel.fill(0)),
     (16, "load of the first channel above the limit", |call| overload(call, 0, &groups(&call.layer)[0])),
     (16, "load of the last channel above the limit", |call| {
         overload(call, call.layer.outputs - 1, &last_of_the_greatest(&call.layer))

@@ -4,7 +4,7 @@ use crate::call::{Buffer, Buffers, Call};
 use crate::groups::{groups, set_group};
 use crate::layer::{Layer, CONV};
 use crate::random::Random;
-use crate::rules::load_limit;
+use crate::rules::{is_blank, load_limit};
 
 /// A layer of which kind, field, K, S and P are given; channels, map, peak, crop and what is added are drawn.
 pub fn layer(random: &mut Random, given: Layer, most_channels: usize, longest: usize) -> Layer {
@@ -93,7 +93,8 @@ pub fn map(random: &mut Random, layer: &Layer) -> Vec<i16> {
     (0..layer.map_length()).map(|_| value()).collect()
 }
 
-/// A kernel of which every output channel's load is within the limit, most groups as near to it as whole weights come.
+/// A kernel of which no output channel is blank and every load is within the limit, most groups as near to it as whole
+/// weights come.
 pub fn kernel(random: &mut Random, layer: &Layer) -> Vec<i16> {
     let most = load_limit(layer.field) as usize / layer.peak;
     let groups = groups(layer);
@@ -108,7 +109,23 @@ pub fn kernel(random: &mut Random, layer: &Layer) -> Vec<i16> {
             set_group(layer, &mut kernel, channel, group, &weights(random, group.len(), total));
         }
     }
+    reach_channels(random, layer, &mut kernel);
     kernel
+}
+
+/// Puts a weight of 1 or -1 at any place of each blank channel.
+pub fn reach_channels(random: &mut Random, layer: &Layer, kernel: &mut [i16]) {
+    for channel in 0..layer.outputs {
+        if is_blank(layer, kernel, channel) {
+            let place = random.below(layer.inputs * layer.side * layer.side);
+            set_group(layer, kernel, channel, &[place], &[random.pick(&[1, -1])]);
+        }
+    }
+}
+
+/// Makes an output channel blank.
+pub fn blank_channel(layer: &Layer, kernel: &mut [i16], channel: usize) {
+    set_channel(layer, kernel, channel, &vec![0; layer.inputs * layer.side * layer.side]);
 }
 
 /// Weights of which the sizes add up to the total, or to as much as so many weights hold; of one sign or of any.

@@ -9,7 +9,7 @@ use crate::transform::{modulus, points};
 type Rule = (usize, fn(&Call) -> bool);
 
 /// The table. Rules are ordered by their place in it, not by their number.
-static RULES: [Rule; 18] = [
+static RULES: [Rule; 19] = [
     (1, |call| call.layer.kind == 0 || call.layer.kind == 1),
     (2, |call| call.layer.field == 4 || call.layer.field == 5),
     (3, |call| inside(1, 64, call.layer.inputs) && inside(1, 64, call.layer.outputs)),
@@ -26,6 +26,7 @@ static RULES: [Rule; 18] = [
     (13, |call| call.scratch_length >= call.layer.scratch_words()),
     (14, |call| inside(1, 32_767, call.layer.peak)),
     (15, |call| call.map.iter().all(|&value| size(value) <= call.layer.peak as u128)),
+    (24, |call| !(0..call.layer.outputs).any(|channel| is_blank(&call.layer, &call.kernel, channel))),
     (16, |call| (0..call.layer.outputs).all(|channel| load(call, channel) <= load_limit(call.layer.field))),
     (17, |call| call.next <= call.layer.tile_total()),
 ];
@@ -56,6 +57,11 @@ fn has_output(layer: &Layer) -> bool {
 fn has_crop(layer: &Layer) -> bool {
     let kept = |first: usize, count: usize, full: i128| count != 0 && first as i128 + count as i128 <= full;
     kept(layer.top, layer.rows, layer.full_rows()) && kept(layer.left, layer.columns, layer.full_columns())
+}
+
+/// Whether every weight that reaches an output channel is 0.
+pub fn is_blank(layer: &Layer, kernel: &[i16], channel: usize) -> bool {
+    channel_weights(layer, kernel, channel).iter().all(|&weight| weight == 0)
 }
 
 /// The peak times the greatest sum of sizes over the groups of weights that reach an output channel.

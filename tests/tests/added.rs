@@ -26,10 +26,10 @@ fn windows() -> impl Iterator<Item = Layer> {
     })
 }
 
-/// A layer of a few map values that is not cropped.
+/// A layer of a few map values that is not cropped. With three map channels a refused call can break any rule.
 fn whole_layer(random: &mut Random, window: Layer, field: usize) -> Layer {
     let (height, width) = (random.between(1, 8), random.between(1, 8));
-    let mut layer = Layer { field, inputs: 2, outputs: 1, height, width, peak: random.between(1, 100), ..window };
+    let mut layer = Layer { field, inputs: 3, outputs: 1, height, width, peak: random.between(1, 100), ..window };
     draw::lengthen(&mut layer);
     layer.uncropped()
 }

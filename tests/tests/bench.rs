@@ -75,8 +75,11 @@ const SINGLES: &[Single] = &[
     ("9", "007", "2", Ok(14)),
     ("0009", "-007", "2", Ok(-14)),
     ("9", "-0", "5", Ok(0)),
-    ("9", "5", "-0", Ok(0)),
-    ("9", "-000", "-000", Ok(0)),
+    ("9", "-000", "5", Ok(0)),
+    ("9", "5", "0", Err(24)),
+    ("9", "5", "-0", Err(24)),
+    ("9", "-000", "-000", Err(24)),
+    ("9", "10", "-0", Err(15)),
     ("1", "1", "-32768", Ok(-32_768)),
     ("1", "-1", "-32768", Ok(32_768)),
     ("1", "-1", "32767", Ok(-32_767)),
@@ -342,7 +345,7 @@ fn drawn_headers() {
     assert!((1..=9).chain([14]).all(|number| seen.refused[number] > 3), "{seen:?}, seed {}", seed());
 }
 
-/// Values beyond the peak and loads above the limit.
+/// Values beyond the peak, blank channels and loads above the limit.
 #[test]
 fn drawn_refusals_of_the_run() {
     let mut seen = Seen::default();
@@ -350,15 +353,16 @@ fn drawn_refusals_of_the_run() {
         let mut random = Random::new("bench, refusals of the run", trial);
         let mut call = call(&mut random, trial % 2);
         let (value, weight) = (random.below(call.map.len()), random.below(call.kernel.len()));
-        match random.below(3) {
+        match random.below(4) {
             0 => call.map[value] = random.word() as i16,
             1 => call.kernel[weight] = random.word() as i16,
+            2 => draw::blank_channel(&call.layer, &mut call.kernel, random.below(call.layer.outputs)),
             _ => call.layer.peak = random.between(0, 65_535),
         }
         seen.count(hold(&text(&mut random, &call)));
     }
     assert!(
-        seen.frames > 20 && [14, 15, 16].iter().all(|&number| seen.refused[number] > 20),
+        seen.frames > 20 && [14, 15, 16, 24].iter().all(|&number| seen.refused[number] > 20),
         "{seen:?}, seed {}",
         seed()
     );

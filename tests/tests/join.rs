@@ -5,8 +5,8 @@ use wemsteky_tests::call::{Buffer, Call};
 use wemsteky_tests::direct::direct_sums;
 use wemsteky_tests::join::{joined_layer, joined_weights, number, Filter};
 use wemsteky_tests::layer::{Layer, CONV};
-use wemsteky_tests::random::Random;
-use wemsteky_tests::rules::load_limit;
+use wemsteky_tests::random::{seed, Random};
+use wemsteky_tests::rules::{is_blank, load_limit};
 use wemsteky_tests::{checked, draw, engine};
 
 /// Makes a call whose buffer for the joined kernel has `room` places, holds everything that it returns and leaves, and
@@ -72,14 +72,15 @@ fn following_layers(random: &mut Random) -> (Layer, Layer) {
 
 #[test]
 fn the_engine_on_the_joined_kernel_does_what_both_layers_do() {
+    let mut accepted = 0;
     for trial in 0..1_500 {
         let mut random = Random::new("join, both ways", trial);
         let (first, second) = following_layers(&mut random);
         // The two totals bound the load of the joined channel, so that the engine accepts it.
         let most = (load_limit(first.field) as usize / first.peak).min(32_767);
-        let total = random.between(0, most).min(1 << random.below(16));
+        let total = random.between(1, most).min(1 << random.below(16));
         let first_kernel = kernel(&mut random, &first, total);
-        let second_kernel = kernel(&mut random, &second, most / total.max(1));
+        let second_kernel = kernel(&mut random, &second, most / total);
         let room = room(&first, &second);
         let (answer, joined) = hold((&first, &first_kernel), (&second, &second_kernel), room);
         assert_eq!(answer, 0, "{first:?}, {second:?}");
@@ -88,8 +89,13 @@ fn the_engine_on_the_joined_kernel_does_what_both_layers_do() {
         let middle = direct_sums(&first, &call.map, &first_kernel);
         let sums = direct_sums(&second, &middle, &second_kernel);
         let mut buffers = draw::buffers(&mut random, &call);
-        assert_eq!(checked::run(&call, &mut buffers, Some(&sums)).number, 0, "{layer:?}");
+        // Products over the middle channels may cancel each other, so that a channel is blank.
+        let blank = (0..layer.outputs).any(|channel| is_blank(&layer, &call.kernel, channel));
+        let expected = if blank { 24 } else { 0 };
+        assert_eq!(checked::run(&call, &mut buffers, Some(&sums)).number, expected, "{layer:?}");
+        accepted += usize::from(!blank);
     }
+    assert!(accepted > 1_400, "{accepted} joined kernels are accepted, seed {}", seed());
 }
 
 #[test]

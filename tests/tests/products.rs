@@ -60,15 +60,17 @@ fn breakable_pair(random: &mut Random, same_field: bool) -> (Layer, Layer) {
     }
 }
 
-/// A kernel that both layers accept with some peak.
+/// A kernel that both layers accept with some peak. A weight of 1 or -1 more in each plane leaves it so.
 fn shared_kernel(random: &mut Random, conv: &Layer, tconv: &Layer) -> Vec<i16> {
     let limit = load_limit(conv.field).min(load_limit(tconv.field)) as usize;
-    let most = limit / conv.outputs / random.pick(&[1, 10, 100, 1_000]);
+    let most = (limit / conv.outputs - conv.inputs) / random.pick(&[1, 10, 100, 1_000]);
     let mut kernel = vec![0; conv.kernel_length() as usize];
     for channel in 0..conv.outputs {
         let weights = draw::weights(random, conv.inputs * conv.side * conv.side, most);
         draw::set_channel(conv, &mut kernel, channel, &weights);
     }
+    draw::reach_channels(random, conv, &mut kernel);
+    draw::reach_channels(random, tconv, &mut kernel);
     kernel
 }
 

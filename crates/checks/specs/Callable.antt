@@ -9,6 +9,7 @@ use Rattle.layer.specs.declared.shape.Layer.{Layer}
 use Rattle.layer.specs.Shape.{mapCount, kernelCount, outputCount}
 use Rattle.layer.specs.Planned.{Planned}
 use Rattle.load.specs.Load.{loadsFit, withinPeak}
+use Rattle.load.specs.Blank.{noneBlank}
 use Rattle.checks.specs.Engine.{Engine}
 
 pub record Callable (engine : Engine) (l : Layer) (map kernel : List ℤ) (output scratch : ℕ) : Type 0 where
@@ -20,4 +21,5 @@ pub record Callable (engine : Engine) (l : Layer) (map kernel : List ℤ) (outpu
   pub peak-low : 1 ≤ l .peak
   pub peak-high : l .peak ≤ 32767
   pub values : withinPeak (l .peak) map ≡ true
+  pub none-blank : noneBlank l kernel ≡ true
   pub loads : loadsFit l kernel ≡ true

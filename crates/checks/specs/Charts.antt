@@ -18,6 +18,7 @@ use Rattle.layer.specs.declared.shape.Layer.{Layer}
 use Rattle.layer.specs.Shape.{outputCount, convSize, tconvSize, fullSize, fullHeight, fullWidth, scratchWords, tileTotal}
 use Rattle.layer.specs.Direct.{conv, tconv, fullAt, directAt, productSum}
 use Rattle.load.specs.Load.{sizeTotal, groupTotal, greatestGroup, load, loadsFit, withinPeak}
+use Rattle.load.specs.Blank.{blank, noneBlank}
 use Rattle.checks.specs.Engine.{tileEngine}
 use Rattle.checks.specs.Checks.{planCode, runCode}
 
@@ -245,6 +246,18 @@ layers =
     ∷ plan (enlarged 2 0 (TCONV 4 1 9 3 3 2 1)) 0
     ∷ plan (enlarged 1 0 (TCONV 4 1 9 3 1 2 1)) 23
     ∷ plan (enlarged 0 1 (CONV 4 8 8 3 2 0 1)) 23
+    -- the weights (1, 1, 0, 0) of two channels to two leave output channel 1 blank in CONV, and (1, 0, 1, 0) in TCONV
+    ∷ run (two 0 8) upTo8 (positive (1 ∷ 1 ∷ 0 ∷ 0 ∷ [])) 24
+    ∷ run (two 1 8) upTo8 (positive (1 ∷ 1 ∷ 0 ∷ 0 ∷ [])) 0
+    ∷ run (two 0 8) upTo8 (positive (1 ∷ 0 ∷ 1 ∷ 0 ∷ [])) 0
+    ∷ run (two 1 8) upTo8 (positive (1 ∷ 0 ∷ 1 ∷ 0 ∷ [])) 24
+    -- 24 comes before 16, whichever channel is blank, and after 15; one group with a weight is enough
+    ∷ run (channels 1 2 (CONV 4 1 1 1 1 0 16384)) (pos 1 ∷ []) (positive (0 ∷ 3 ∷ [])) 24
+    ∷ run (channels 1 2 (CONV 4 1 1 1 1 0 16384)) (pos 1 ∷ []) (positive (3 ∷ 0 ∷ [])) 24
+    ∷ run (channels 1 2 (CONV 4 1 1 1 1 0 16384)) (pos 1 ∷ []) (positive (3 ∷ 1 ∷ [])) 16
+    ∷ run (CONV 4 1 1 1 1 0 1) (pos 2 ∷ []) (pos 0 ∷ []) 15
+    ∷ run (TCONV 4 1 1 2 2 0 1) (pos 1 ∷ []) (positive (0 ∷ 0 ∷ 0 ∷ 0 ∷ [])) 24
+    ∷ run (TCONV 4 1 1 2 2 0 1) (pos 1 ∷ []) (pos 0 ∷ pos 0 ∷ minus 1 ∷ pos 0 ∷ []) 0
     -- wanted rows stand S apart: 31 of them span 61 rows of the grid, three tiles of 30; 30 span 59, two tiles
     ∷ tiles (CONV 4 64 8 3 2 0 1) 3
     ∷ tiles (CONV 4 62 8 3 2 0 1) 2
@@ -253,12 +266,12 @@ layers =
 -- every claim of the table of starred cases holds
 pub charts-hold : T (allHold charts)
 unfolding allHold charts holds table convSize tconvSize fullAt conv tconv directAt productSum sum sumZ
-    planCode runCode inside cropFits withinPeak loadsFit load sizeTotal groupTotal greatestGroup greatest tileTotal ceilingDiv
+    planCode runCode inside cropFits withinPeak noneBlank blank loadsFit load sizeTotal groupTotal greatestGroup greatest tileTotal ceilingDiv
     transformAt powerSum
 charts-hold = tt
 
 -- and every claim of our own
 layers-hold : T (allHold layers)
 unfolding allHold layers holds table convSize tconvSize fullAt conv tconv directAt sum sumZ
-    planCode runCode inside cropFits withinPeak loadsFit load sizeTotal groupTotal greatestGroup greatest tileTotal ceilingDiv
+    planCode runCode inside cropFits withinPeak noneBlank blank loadsFit load sizeTotal groupTotal greatestGroup greatest tileTotal ceilingDiv
 layers-hold = tt

@@ -8,7 +8,7 @@ use Rattle.layer.specs.declared.shape.Layer.{Layer}
 use Rattle.layer.specs.declared.shape.Plan.{Plan}
 use Rattle.layer.specs.Shape.{fullHeight, fullWidth}
 use Rattle.checks.specs.Engine.{Engine}
-use Rattle.checks.specs.Rules.{kindRule, fieldRule, channelsRule, mapRule, sideRule, strideRule, paddingRule, addedRule, outputRule, cropRule, mapLengthRule, kernelLengthRule, outputLengthRule, scratchRule, peakRule, valuesRule, loadsRule, indexRule}
+use Rattle.checks.specs.Rules.{kindRule, fieldRule, channelsRule, mapRule, sideRule, strideRule, paddingRule, addedRule, outputRule, cropRule, mapLengthRule, kernelLengthRule, outputLengthRule, scratchRule, peakRule, valuesRule, blankRule, loadsRule, indexRule}
 
 -- ---- lists of rules
 
@@ -33,11 +33,15 @@ abbrev pub lentRules : (words : ℕ) → Layer → (map kernel : List ℤ) → (
 lentRules words l map kernel output scratch =
     mapLengthRule l map ∷ kernelLengthRule l kernel ∷ outputLengthRule l output ∷ scratchRule words scratch ∷ peakRule l ∷ []
 
--- 15 and 16: the values of the map and of the kernel
-abbrev pub valueRules : Layer → (map kernel : List ℤ) → List Rule
-valueRules l map kernel = valuesRule l map ∷ loadsRule l kernel ∷ []
+-- 24 and 16: the weights of each output channel
+abbrev pub weightRules : Layer → (kernel : List ℤ) → List Rule
+weightRules l kernel = blankRule l kernel ∷ loadsRule l kernel ∷ []
 
--- 10 to 16
+-- 15, 24 and 16: the values of the map and of the kernel
+abbrev pub valueRules : Layer → (map kernel : List ℤ) → List Rule
+valueRules l map kernel = valuesRule l map ∷ weightRules l kernel
+
+-- 10 to 16, with 24 before 16
 abbrev pub callRules : (words : ℕ) → Layer → (map kernel : List ℤ) → (output scratch : ℕ) → List Rule
 callRules words l map kernel output scratch = lentRules words l map kernel output scratch ++ valueRules l map kernel
 
@@ -48,7 +52,7 @@ jobRules total next = indexRule total next ∷ []
 -- ---- the answers
 
 module _ (engine : Engine) where
-  -- the planner makes 1 to 9 with 23 after 7, a run goes on to 16, a job to 17
+  -- the planner makes 1 to 9 with 23 after 7, a run goes on to 16 with 24 before it, a job to 17
   unfoldable pub planCode : Layer → ℕ
   planCode l = firstBroken (shapeRules (engine .last-field) l ++ outputRules l)
 

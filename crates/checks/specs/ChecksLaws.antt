@@ -114,7 +114,7 @@ module _ (engine : Engine) (l : Layer) (map kernel : List ℤ) (output scratch :
     unfolding runCode
     callable e =
         let (plan, rest) = both-accept plan-rules call-rules tt e in
-        let (map-length, (kernel-length, (output-length, (words, (peak, (values, (loads, _))))))) = none-broken call-rules tt rest in
+        let (map-length, (kernel-length, (output-length, (words, (peak, (values, (none-blank, (loads, _)))))))) = none-broken call-rules tt rest in
         record {
           plan = planned lawful l (run-plans e);
           map-length = eqb-true _ _ map-length;
@@ -124,6 +124,7 @@ module _ (engine : Engine) (l : Layer) (map kernel : List ℤ) (output scratch :
           peak-low = inside-low 1 32767 (l .peak) peak;
           peak-high = inside-high 1 32767 (l .peak) peak;
           values = values;
+          none-blank = none-blank;
           loads = loads;
         }
 

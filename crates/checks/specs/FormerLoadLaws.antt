@@ -1,5 +1,5 @@
--- What 02, E2 changed of the load: it is at most the former one, and equal to it in CONV and at stride 1; a call that was accepted is accepted.
--- It rests on the laws of groups, of `every` and of lists of rules.
+-- What 02, E2 changed of the load: it is at most the former one, and equal to it in CONV and at stride 1; a call that is accepted with the
+-- former one is accepted. It rests on the laws of groups, of `every` and of lists of rules.
 use mathlib.Core.Path.{_≡_, refl, ap, _∙_}
 use mathlib.Core.Bool.{Bool, true, false}
 use mathlib.Core.List.{List, [], _∷_, _++_}
@@ -18,7 +18,7 @@ use Rattle.load.specs.Load.{sizeTotal, load, loadLimit, loadsFit}
 use Rattle.load.specs.GroupLaws.{one-stride-group}
 use Rattle.load.specs.LoadLaws.{load-conv, load-tconv, load-most}
 use Rattle.checks.specs.Engine.{Engine}
-use Rattle.checks.specs.Rules.{valuesRule}
+use Rattle.checks.specs.Rules.{valuesRule, blankRule}
 use Rattle.checks.specs.Checks.{shapeRules, outputRules, lentRules, jobRules, runCode, jobCode}
 use Rattle.checks.specs.FormerLoad.{formerLoad, formerLoadsFit, formerRunCode, formerJobCode}
 
@@ -57,10 +57,12 @@ other-rule rules more number former new n entails e =
     go true new entails e = rw (entails refl) e
     go false new entails e = absurd (omega arith)
 
--- a call that was accepted is accepted, of any engine
+-- a call that is accepted with the former load is accepted, of any engine
 module _ (engine : Engine) (l : Layer) (map kernel : List ℤ) (output scratch : ℕ) where
   abbrev earlier : List Rule
-  earlier = shapeRules (engine .last-field) l ++ outputRules l ++ lentRules (engine .words l) l map kernel output scratch ++ valuesRule l map ∷ []
+  earlier =
+      shapeRules (engine .last-field) l ++ outputRules l ++ lentRules (engine .words l) l map kernel output scratch
+      ++ valuesRule l map ∷ blankRule l kernel ∷ []
 
   pub run-accepted : formerRunCode engine l map kernel output scratch ≡ 0 → runCode engine l map kernel output scratch ≡ 0
   unfolding formerRunCode runCode

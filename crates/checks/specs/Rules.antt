@@ -1,5 +1,5 @@
--- 01, "Returned by number", and 02, E7: the rules 1 to 17 and 23, one definition each. A rule holds where its number is not returned. The lists of the rules that a
--- plan, a run and a job are checked by are in `Checks`.
+-- 01, "Returned by number", and 02, E7 and E10: the rules 1 to 17, 23 and 24, one definition each. A rule holds where its number is not returned.
+-- The lists of the rules that a plan, a run and a job are checked by are in `Checks`.
 use mathlib.Core.Bool.{_&&_}
 use mathlib.Core.List.{List}
 use Prim.Native.Nat.{ℕ}
@@ -11,6 +11,7 @@ use Rattle.layer.specs.declared.shape.Layer.{Layer}
 use Rattle.layer.specs.Shape.{mapCount, kernelCount, outputCount, fullHeight, fullWidth}
 use Rattle.layer.specs.Planned.{addedFits, hasOutput, cropFits}
 use Rattle.load.specs.Load.{loadsFit, withinPeak}
+use Rattle.load.specs.Blank.{noneBlank}
 
 module _ (l : Layer) where
   -- 1: the kind is CONV or TCONV
@@ -72,6 +73,10 @@ module _ (l : Layer) where
   -- 15: no map value is beyond A
   abbrev pub valuesRule : (map : List ℤ) → Rule
   valuesRule map = rule 15 (withinPeak (l .peak) map)
+
+  -- 24: no output channel is blank
+  abbrev pub blankRule : (kernel : List ℤ) → Rule
+  blankRule kernel = rule 24 (noneBlank l kernel)
 
   -- 16: no output channel's load is above the limit
   abbrev pub loadsRule : (kernel : List ℤ) → Rule

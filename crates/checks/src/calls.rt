@@ -1,9 +1,9 @@
-// The checks of a call, in table order: those of the planner, 10 to 16 of what is lent, 17 of the job's index.
+// The checks of a call, in table order: those of the planner, 10 to 16 of what is lent with 24 before 16, 17 of the job's index.
 use crate::planner::plan_code;
 use base::rules;
 use layer::shape::Layer;
 use layer::sizes;
-use load::loads_fit;
+use load::judge_channels;
 use load::values::within_peak;
 ghost use mathlib.Core.Path.{_≡_};
 ghost use Rattle.base.specs.Rules.{firstBroken};
@@ -25,7 +25,8 @@ fn lent_code(layer: Layer, map: &[i16], kernel: &[i16], output: usize, scratch: 
     rules::next(code, 14, rules::is_inside(1, 32767, layer.peak))
 }
 
-// The first of the rules 15 and 16 that is broken, or 0: each reads all values, so it comes after every rule that reads none.
+// The first of the rules 15, 24 and 16 that is broken, or 0. They read all values, so they come after every rule that reads none; the kernel is
+// read once for 24 and 16.
 fn values_code(layer: Layer, map: &[i16], kernel: &[i16]) -> usize
     requires { ⌜ Weighted layer (now kernel) ⌝ }
     ensures { λ r. ⌜ r ≡ firstBroken (valueRules layer (now (map .entry)) (now (kernel .entry))) ⌝ }
@@ -34,7 +35,9 @@ fn values_code(layer: Layer, map: &[i16], kernel: &[i16]) -> usize
     if code != 0 {
         return code;
     }
-    rules::next(0, 16, loads_fit(layer, kernel))
+    let judged = judge_channels(layer, kernel);
+    let code = rules::next(0, 24, judged.nonzero);
+    rules::next(code, 16, judged.fits)
 }
 
 // The first rule of a job that is broken, or 0.

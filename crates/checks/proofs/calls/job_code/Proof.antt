@@ -1,4 +1,4 @@
--- `job_code` joins the answers of the planner's rules, of 10 to 14, and of 15 to 17.
+-- `job_code` joins the answers of the planner's rules, of 10 to 14, and of 15, 24, 16 and 17.
 use mathlib.Core.Path.{sym, ap, _∙_}
 use mathlib.Core.List.{List, _++_}
 use borrow.Author.Needs.{needs}
