@@ -103,8 +103,8 @@ extern "C" {
 /* Checks 1 to 9 and 23. figures: E, F, the total of tiles, 3 N N words of scratch; zeros where the layer is refused. */
 WEMSTEKY_MUST_USE size_t wemsteky_plan(const size_t layer[16], size_t figures[4]);
 
-/* Checks 1 to 16, 23 and 24, then every tile: each output becomes its sum. figures: tiles finished, index of the next tile, 1 where done; zeros where the
- * call is refused. An accepted call leaves the first 3 N N words of scratch zero and later ones as they were; what they held before is free. */
+/* Checks 1 to 16, 23 and 24, then every tile: each output becomes its sum. figures: tiles finished, index of the next tile, 1 where done; zeros
+ * where the call is refused. An accepted call leaves the first 3 N N words of scratch zero and later ones as they were; what they held is free. */
 WEMSTEKY_MUST_USE size_t wemsteky_run(const size_t layer[16], const int16_t *map, size_t map_len, const int16_t *kernel, size_t kernel_len,
                                       int32_t *output, size_t output_len, uint64_t *scratch, size_t scratch_len, size_t figures[3]);
 

@@ -1,7 +1,7 @@
 -- Laws of tests: both of two, and `every`: one number more, what it says of one of them, that it holds where all pass, equal tests, and summands
 -- that are all 0.
 use mathlib.Core.Path.{_≡_, refl, sym, ap, ap₂, _∙_, subst}
-use mathlib.Core.Bool.{Bool, true, false, and-true, and-false, _&&_}
+use mathlib.Core.Bool.{Bool, true, false, _&&_}
 use Prim.Native.Nat.{ℕ, zero, suc, _+_, _<_}
 use native.Mathlib.Decide.{ℕ-discrete}
 use native.Mathlib.Nat.{zero-add}
@@ -17,16 +17,9 @@ pub both-true : (a b : Bool) → a && b ≡ true → (a ≡ true) × (b ≡ true
 both-true true b e = (refl, e)
 both-true false b e = absurd (subst T (sym e) tt)
 
--- one number more: its test fails, or it changes nothing
-module _ (test : ℕ → Bool) (n : ℕ) where
-  pub every-fails : test n ≡ false → false ≡ every (n + 1) test
-  every-fails e = rw (add-one, e) (sym (and-false (every n test)))
-
-  pub every-holds : test n ≡ true → every n test ≡ every (n + 1) test
-  every-holds e = rw (add-one, e) (sym (and-true (every n test)))
-
-  pub every-next : every n test && test n ≡ every (n + 1) test
-  every-next = rw add-one
+-- one number more
+pub every-next : (test : ℕ → Bool) (n : ℕ) → every n test && test n ≡ every (n + 1) test
+every-next test n = rw add-one
 
 pub every-at : (n : ℕ) (test : ℕ → Bool) → every n test ≡ true → (i : ℕ) → i < n → test i ≡ true
 every-at zero test e i l = absurd (omega arith)

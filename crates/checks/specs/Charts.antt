@@ -5,13 +5,14 @@ use mathlib.Core.List.{List, [], _∷_}
 use Prim.Native.Nat.{ℕ}
 use lib.Dec.{T, eqb}
 use lib.IntN.{ℤ, pos, negℤ, natAbs, _-ℤ_}
-use lib.ListN.{getD, set, replicate}
+use lib.ListN.{length, getD, set, replicate}
 use Rattle.algebra.specs.Planes.{cell}
 use Rattle.algebra.specs.Sum.{sum, sumZ}
 use Rattle.algebra.specs.Greatest.{greatest}
 use Rattle.algebra.specs.Places.{table}
 use Rattle.base.specs.Number.{ceilingDiv}
 use Rattle.base.specs.Rules.{inside}
+use Rattle.fermat.specs.Field.{transformLength}
 use Rattle.fermat.specs.Transform.{powerSum, transformAt, transformIn}
 use Rattle.layer.specs.Planned.{cropFits}
 use Rattle.layer.specs.declared.shape.Layer.{Layer}
@@ -35,7 +36,7 @@ pub data Claim : Type 0 where
   run : Layer → (map kernel : List ℤ) → ℕ → Claim
   -- a layer has this many tiles
   tiles : Layer → ℕ → Claim
-  -- the transform of the words in the field has this entry at this place
+  -- there are N words, and their transform has this entry at this place
   entry : (field : ℕ) → (words : List ℕ) → (place value : ℕ) → Claim
 
 abbrev equal : ℤ → ℤ → Bool
@@ -62,7 +63,8 @@ holds (products forward backward x y kernel value) = equal (against forward x ke
 holds (plan l number) = eqb (planCode tileEngine l) number
 holds (run l map kernel number) = eqb (code l map kernel) number
 holds (tiles l total) = eqb (tileTotal l) total
-holds (entry field words place value) = eqb (transformIn field (λ n. getD words n 0) place) value
+holds (entry field words place value) =
+    eqb (length words) (transformLength field) && eqb (transformIn field (λ n. getD words n 0) place) value
 
 pub allHold : List Claim → Bool
 allHold [] = true
@@ -151,50 +153,9 @@ charts =
 
 -- ---- layers of our own, where the chart's cases do not tell two readings apart
 
-abbrev cropped : Layer → (top left rows columns : ℕ) → Layer
-cropped l top left rows columns = record {
-  kind = l .kind;
-  field = l .field;
-  inputs = l .inputs;
-  outputs = l .outputs;
-  height = l .height;
-  width = l .width;
-  side = l .side;
-  stride = l .stride;
-  padding = l .padding;
-  peak = l .peak;
-  top = top;
-  left = left;
-  rows = rows;
-  columns = columns;
-  below = l .below;
-  beside = l .beside;
-}
-
--- the layer with so many rows and columns added, not cropped
-abbrev enlarged : (below beside : ℕ) → Layer → Layer
-enlarged below beside l = record {
-  kind = l .kind;
-  field = l .field;
-  inputs = l .inputs;
-  outputs = l .outputs;
-  height = l .height;
-  width = l .width;
-  side = l .side;
-  stride = l .stride;
-  padding = l .padding;
-  peak = l .peak;
-  top = 0;
-  left = 0;
-  rows = fullSize l (l .height) below;
-  columns = fullSize l (l .width) beside;
-  below = below;
-  beside = beside;
-}
-
--- the layer from so many map channels to so many output channels
-abbrev pub channels : (inputs outputs : ℕ) → Layer → Layer
-channels inputs outputs l = record {
+-- the layer with other channels and another crop, and so many rows and columns added
+abbrev changed : Layer → (inputs outputs top left rows columns below beside : ℕ) → Layer
+changed l inputs outputs top left rows columns below beside = record {
   kind = l .kind;
   field = l .field;
   inputs = inputs;
@@ -205,13 +166,24 @@ channels inputs outputs l = record {
   stride = l .stride;
   padding = l .padding;
   peak = l .peak;
-  top = l .top;
-  left = l .left;
-  rows = l .rows;
-  columns = l .columns;
-  below = l .below;
-  beside = l .beside;
+  top = top;
+  left = left;
+  rows = rows;
+  columns = columns;
+  below = below;
+  beside = beside;
 }
+
+abbrev cropped : Layer → (top left rows columns : ℕ) → Layer
+cropped l top left rows columns = changed l (l .inputs) (l .outputs) top left rows columns (l .below) (l .beside)
+
+-- the layer with so many rows and columns added, not cropped
+abbrev enlarged : (below beside : ℕ) → Layer → Layer
+enlarged below beside l = changed l (l .inputs) (l .outputs) 0 0 (fullSize l (l .height) below) (fullSize l (l .width) beside) below beside
+
+-- the layer from so many map channels to so many output channels
+abbrev pub channels : (inputs outputs : ℕ) → Layer → Layer
+channels inputs outputs l = changed l inputs outputs (l .top) (l .left) (l .rows) (l .columns) (l .below) (l .beside)
 
 -- two channels to two, 2 by 2, K 1
 abbrev two : (kind peak : ℕ) → Layer

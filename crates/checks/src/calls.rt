@@ -25,8 +25,8 @@ fn lent_code(layer: Layer, map: &[i16], kernel: &[i16], output: usize, scratch: 
     rules::next(code, 14, rules::is_inside(1, 32767, layer.peak))
 }
 
-// The first of the rules 15, 24 and 16 that is broken, or 0. They read all values, so they come after every rule that reads none; the kernel is
-// read once for 24 and 16.
+// The first of the rules 15, 24 and 16 that is broken, or 0. They read all values, so they come after every rule that reads none. 24 and 16 are
+// answered together, by the same sums.
 fn values_code(layer: Layer, map: &[i16], kernel: &[i16]) -> usize
     requires { ⌜ Weighted layer (now kernel) ⌝ }
     ensures { λ r. ⌜ r ≡ firstBroken (valueRules layer (now (map .entry)) (now (kernel .entry))) ⌝ }

@@ -80,9 +80,7 @@ fn weights_fit(
     let mut p = 0;
     while p < count {
         let weight = weight_at(first, first_kernel, second, second_kernel, p);
-        if !is_weight(weight) {
-            fit = false;
-        }
+        fit = fit & is_weight(weight);
         p += 1;
     }
     fit

@@ -6,7 +6,6 @@ ghost use Rattle.layer.specs.Numbers.{layerOf};
 pub fn layer_of(numbers: &[usize; 16]) -> Layer
     ensures { λ r. ⌜ r ≡ layerOf (now (numbers .entry)) ⌝ }
 {
-    let numbers = *numbers;
     Layer {
         kind: numbers[0],
         field: numbers[1],

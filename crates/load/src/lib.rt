@@ -47,7 +47,7 @@ fn load_fits(layer: Layer, kernel: &[i16], m: usize, total: u64, limit: u64) -> 
     peak * greatest_group(layer, kernel, m) <= limit
 }
 
-// Both tests of output channel m, by one sum of sizes.
+// Both tests of output channel m. One sum of sizes tells whether it is blank, and the load is tested by it.
 fn judge_channel(layer: Layer, kernel: &[i16], m: usize, limit: u64) -> Judged
     requires { ⌜ Weighted layer (now kernel) × (m < layer .outputs) ⌝ }
     ensures { λ r. ⌜ r .nonzero ≡ not (blank layer (now (kernel .entry)) m) ⌝ }
@@ -65,7 +65,7 @@ fn judge_channel(layer: Layer, kernel: &[i16], m: usize, limit: u64) -> Judged
     }
 }
 
-// Both tests of every output channel, in one pass over the kernel.
+// Both tests of every output channel.
 pub fn judge_channels(layer: Layer, kernel: &[i16]) -> Judged
     requires { ⌜ Weighted layer (now kernel) ⌝ }
     ensures { λ r. ⌜ r .nonzero ≡ noneBlank layer (now (kernel .entry)) ⌝ }

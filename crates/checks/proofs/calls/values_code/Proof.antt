@@ -1,11 +1,11 @@
--- `values_code` goes through `valueRules`: the kernel is read only where no map value is beyond the peak, once for both of its rules.
+-- `values_code` goes through `valueRules`: the kernel is read only where no map value is beyond the peak.
 use mathlib.Core.Path.{_≡_}
 use mathlib.Core.List.{List, [], _∷_}
 use borrow.Author.Needs.{needs}
 use denote.Ref.{now}
 use Rattle.base.specs.Rules.{Rule, firstBroken}
-use Rattle.base.specs.RulesLaws.{one-rule, one-more-rule, first-answers, goes-on}
-use Rattle.checks.specs.Rules.{valuesRule, blankRule}
+use Rattle.base.specs.RulesLaws.{one-rule, in-order, rule-steps, first-answers, goes-on}
+use Rattle.checks.specs.Rules.{valuesRule}
 use Rattle.checks.specs.Checks.{weightRules}
 use Rattle.checks.proofs.calls.values_code.Statement.{statement}
 use Rattle.checks.proofs.calls.values_code.Tie as tie
@@ -39,13 +39,9 @@ next-requires-3 c κs = search needs
 
 returns-2 : tie.Need-returns-2
 returns-2 c =
-    let blank : tie.After-next2 = c .before in
-    let judged : tie.After-judge-channels = blank .before in
-    let passed : tie.Else1 = judged .before in
+    let passed : tie.Else1 = c .before .before .before in
     let s = passed .before .before .before in
-    goes-on (map-rules s) (weight-rules s) tt (map-code (passed .before)) (passed .if1 .left)
-    (one-more-rule (blankRule (s .args .layer) (now (s .args .kernel)) ∷ []) tt 16
-    (one-rule 24 (blank .next2 .ensures) (judged .judge-channels .ensures .0)) (c .next3 .ensures) (judged .judge-channels .ensures .1))
+    goes-on (map-rules s) (weight-rules s) tt (map-code (passed .before)) (passed .if1 .left) (in-order (weight-rules s) tt (search rule-steps depth 20))
 
 pub values-code-spec : {M : Type 1} → statement M
 values-code-spec =

@@ -1,15 +1,13 @@
 -- `weights_fit` tests weight after weight: `fit` says it of the places before p. It rests on the laws of `every`.
-use mathlib.Core.Path.{_≡_, refl, sym, ap, _∙_}
-use mathlib.Core.Bool.{Bool}
-use mathlib.Core.Logic.{⊎-elim}
+use mathlib.Core.Path.{_≡_, refl, ap, ap₂, _∙_}
+use mathlib.Core.Bool.{Bool, _&&_}
 use Prim.Native.Nat.{ℕ, _+_, _-_, _≤_}
 use native.Mathlib.Omega.{arith}
 use borrow.Author.Needs.{needs, sfits-of}
-use borrow.Author.Tests.{not-true, not-false}
 use denote.Ref.{now}
 use mir.Facts.{toZ-ofZ}
 use Rattle.algebra.specs.Every.{every}
-use Rattle.algebra.specs.EveryLaws.{every-fails, every-holds}
+use Rattle.algebra.specs.EveryLaws.{every-next}
 use Rattle.layer.specs.Shape.{kernelCount}
 use Rattle.joined.specs.Joined.{joinedLayer, joinedAt}
 use Rattle.join.specs.Answer.{fits, weightsFit}
@@ -40,25 +38,15 @@ add-p c = search needs
 loop-less : tie.Need-loop-less Inv-loop μ-loop
 loop-less c = search needs
 
--- what the branch makes of `fit`
-fit-next : (c : tie.Joined1 Inv-loop μ-loop)
-    → let turn : tie.At-loop Inv-loop μ-loop = c .before .before .before .before in
-    let a = turn .before .args in
-    c .if1 .fit ≡ every (turn .loop .p + 1) (λ q. fits (joinedAt (a .first) (now (a .first-kernel)) (a .second) (now (a .second-kernel)) q))
-fit-next c =
-    let turn = c .before .before .before .before in
+loop-again : tie.Need-loop-again Inv-loop μ-loop
+loop-again c =
+    let made = c .before in
+    let turn : tie.At-loop Inv-loop μ-loop = made .before .before in
     let a = turn .before .args in
     let test : ℕ → Bool = λ q. fits (joinedAt (a .first) (now (a .first-kernel)) (a .second) (now (a .second-kernel)) q) in
-    let tested : c .before .is-weight .result ≡ test (turn .loop .p) =
-    (rw (toZ-ofZ {z = c .before .before .weight-at .result} (sfits-of (c .before .before .weight-at .ok))) at (c .before .is-weight .ensures))
-    ∙ ap fits (c .before .before .weight-at .ensures .0) in
-    ⊎-elim
-    (λ w. w .1 ∙ every-fails test (turn .loop .p) (sym tested ∙ not-true _ (w .0 .taken)))
-    (λ w. w .1 ∙ turn .loop .inv .1 ∙ every-holds test (turn .loop .p) (sym tested ∙ not-false _ (w .0 .left)))
-    (c .if1 .came)
-
-loop-again : tie.Need-loop-again Inv-loop μ-loop
-loop-again c = (omega arith, fit-next c)
+    let tested : c .is-weight .result ≡ test (turn .loop .p) =
+    (rw (toZ-ofZ {z = made .weight-at .result} (sfits-of (made .weight-at .ok))) at (c .is-weight .ensures)) ∙ ap fits (made .weight-at .ensures .0) in
+    (omega arith, ap₂ _&&_ (turn .loop .inv .1) tested ∙ every-next test (turn .loop .p))
 
 returns : tie.Need-returns Inv-loop μ-loop
 unfolding weightsFit
