@@ -10,7 +10,7 @@ abbrev pub cell : (A B : ℕ) → List ℤ → (k i j : ℕ) → ℤ
 cell A B values k i j = getD values ((k * A + i) * B + j) (pos 0)
 
 -- the value at the flat place p of planes of A rows of B values
-abbrev pub stackedAt : (A B : ℕ) → (ℕ → ℕ → ℕ → ℤ) → ℕ → ℤ
+abbrev pub stackedAt : {Value : Type 0} → (A B : ℕ) → (ℕ → ℕ → ℕ → Value) → ℕ → Value
 stackedAt A B value p = value (p / (A * B)) (p % (A * B) / B) (p % (A * B) % B)
 
 abbrev pub stacked : (planes A B : ℕ) → (ℕ → ℕ → ℕ → ℤ) → List ℤ

@@ -12,7 +12,7 @@ use Rattle.algebra.specs.PlacesLaws.{getD-table, table-same}
 flat : (A B k i j : ℕ) → (k * A + i) * B + j ≡ k * (A * B) + (i * B + j)
 flat A B k i j = omega arith
 
-pub stacked-at : (A B : ℕ) (value : ℕ → ℕ → ℕ → ℤ) (k i j : ℕ) → i < A → j < B → stackedAt A B value ((k * A + i) * B + j) ≡ value k i j
+pub stacked-at : {Value : Type 0} (A B : ℕ) (value : ℕ → ℕ → ℕ → Value) (k i j : ℕ) → i < A → j < B → stackedAt A B value ((k * A + i) * B + j) ≡ value k i j
 stacked-at A B value k i j row column =
     let inner : i * B + j < A * B = digits-lt row column in
     rw (flat A B k i j, digits-div k inner, digits-mod k inner, digits-div i column, digits-mod i column)

@@ -119,13 +119,13 @@ fn plans() {
     plan_case(13, whole(0, 4, 512, 512, 1, 1, 0, 1, 512, 512));
 }
 
-// Case 13: −32,768 under a peak. Whether it is answered with 15.
+// Case 13: −32,768 under a peak. Whether it is answered with 25, and said to be below −A.
 fn is_beyond(peak: usize) -> bool {
     let mut one = [0i32; 1];
     let mut scratch = [0u64; 3072];
     let layer = whole(0, 4, 1, 1, 1, 1, 0, peak, 1, 1);
     let progress = engine::run(layer, &[-32768i16], &[0i16], &mut one, &mut scratch);
-    progress.code == 15
+    progress.code == 25 && progress.offender.side == 2
 }
 
 // The same under every peak: how many are.

@@ -19,6 +19,7 @@ use Rattle.layer.specs.declared.shape.Layer.{Layer}
 use Rattle.layer.specs.Shape.{outputCount, convSize, tconvSize, fullSize, fullHeight, fullWidth, scratchWords, tileTotal}
 use Rattle.layer.specs.Direct.{conv, tconv, fullAt, directAt, productSum}
 use Rattle.load.specs.Load.{sizeTotal, groupTotal, greatestGroup, load, loadsFit, withinPeak}
+use Rattle.load.specs.Offender.{firstBeyond, offenderOf}
 use Rattle.load.specs.Blank.{blank, noneBlank}
 use Rattle.checks.specs.Engine.{tileEngine}
 use Rattle.checks.specs.Checks.{planCode, runCode}
@@ -238,12 +239,12 @@ layers =
 -- every claim of the table of starred cases holds
 pub charts-hold : T (allHold charts)
 unfolding allHold charts holds table convSize tconvSize fullAt conv tconv directAt productSum sum sumZ
-    planCode runCode inside cropFits withinPeak noneBlank blank loadsFit load sizeTotal groupTotal greatestGroup greatest tileTotal ceilingDiv
+    planCode runCode inside cropFits withinPeak offenderOf firstBeyond noneBlank blank loadsFit load sizeTotal groupTotal greatestGroup greatest tileTotal ceilingDiv
     transformAt powerSum
 charts-hold = tt
 
 -- and every claim of our own
 layers-hold : T (allHold layers)
 unfolding allHold layers holds table convSize tconvSize fullAt conv tconv directAt sum sumZ
-    planCode runCode inside cropFits withinPeak noneBlank blank loadsFit load sizeTotal groupTotal greatestGroup greatest tileTotal ceilingDiv
+    planCode runCode inside cropFits withinPeak offenderOf firstBeyond noneBlank blank loadsFit load sizeTotal groupTotal greatestGroup greatest tileTotal ceilingDiv
 layers-hold = tt

@@ -1,14 +1,18 @@
 -- 01, "Returned by number": what a plan, a run and a job answer, each by its list of rules in table order. Engines differ in three figures of
 -- them: the last field that is taken, the words of scratch and the total of parts.
+use mathlib.Core.Bool.{cond, _||_}
 use mathlib.Core.List.{List, [], _∷_, _++_}
 use Prim.Native.Nat.{ℕ, zero, suc}
+use lib.Dec.{eqb}
 use lib.IntN.{ℤ}
 use Rattle.base.specs.Rules.{Rule, firstBroken}
 use Rattle.layer.specs.declared.shape.Layer.{Layer}
 use Rattle.layer.specs.declared.shape.Plan.{Plan}
 use Rattle.layer.specs.Shape.{fullHeight, fullWidth}
+use Rattle.load.specs.declared.offender.Offender.{Offender}
+use Rattle.load.specs.Offender.{noOffender, offenderOf}
 use Rattle.checks.specs.Engine.{Engine}
-use Rattle.checks.specs.Rules.{kindRule, fieldRule, channelsRule, mapRule, sideRule, strideRule, paddingRule, addedRule, outputRule, cropRule, mapLengthRule, kernelLengthRule, outputLengthRule, scratchRule, peakRule, valuesRule, blankRule, loadsRule, indexRule}
+use Rattle.checks.specs.Rules.{kindRule, fieldRule, channelsRule, mapRule, sideRule, strideRule, paddingRule, addedRule, outputRule, cropRule, mapLengthRule, kernelLengthRule, outputLengthRule, scratchRule, peakRule, aboveRule, belowRule, blankRule, loadsRule, indexRule}
 
 -- ---- lists of rules
 
@@ -33,15 +37,19 @@ abbrev pub lentRules : (words : ℕ) → Layer → (map kernel : List ℤ) → (
 lentRules words l map kernel output scratch =
     mapLengthRule l map ∷ kernelLengthRule l kernel ∷ outputLengthRule l output ∷ scratchRule words scratch ∷ peakRule l ∷ []
 
+-- 15 and 25: the values of the map
+abbrev pub mapValueRules : Layer → (map : List ℤ) → List Rule
+mapValueRules l map = aboveRule l map ∷ belowRule l map ∷ []
+
 -- 24 and 16: the weights of each output channel
 abbrev pub weightRules : Layer → (kernel : List ℤ) → List Rule
 weightRules l kernel = blankRule l kernel ∷ loadsRule l kernel ∷ []
 
--- 15, 24 and 16: the values of the map and of the kernel
+-- 15, 25, 24 and 16: the values of the map and of the kernel
 abbrev pub valueRules : Layer → (map kernel : List ℤ) → List Rule
-valueRules l map kernel = valuesRule l map ∷ weightRules l kernel
+valueRules l map kernel = mapValueRules l map ++ weightRules l kernel
 
--- 10 to 16, with 24 before 16
+-- 10 to 16, with 25 and 24 before 16
 abbrev pub callRules : (words : ℕ) → Layer → (map kernel : List ℤ) → (output scratch : ℕ) → List Rule
 callRules words l map kernel output scratch = lentRules words l map kernel output scratch ++ valueRules l map kernel
 
@@ -51,8 +59,12 @@ jobRules total next = indexRule total next ∷ []
 
 -- ---- the answers
 
+-- 02, E11: the place and the side that stand with the answers 15 and 25; zeros with any other
+unfoldable pub offenderWith : (code : ℕ) → Layer → (map : List ℤ) → Offender
+offenderWith code l map = cond (eqb code 15 || eqb code 25) (offenderOf l map) noOffender
+
 module _ (engine : Engine) where
-  -- the planner makes 1 to 9 with 23 after 7, a run goes on to 16 with 24 before it, a job to 17
+  -- the planner makes 1 to 9 with 23 after 7, a run goes on to 16 with 25 and 24 before it, a job to 17
   unfoldable pub planCode : Layer → ℕ
   planCode l = firstBroken (shapeRules (engine .last-field) l ++ outputRules l)
 

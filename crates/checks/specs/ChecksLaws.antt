@@ -15,6 +15,7 @@ use Rattle.layer.specs.declared.shape.Layer.{Layer}
 use Rattle.layer.specs.Shape.{fullHeight, fullWidth}
 use Rattle.checks.specs.Callable.{Callable}
 use Rattle.checks.specs.Engine.{Engine, Lawful}
+use Rattle.checks.specs.OffenderLaws.{both-within}
 use Rattle.checks.specs.Checks.{shapeRules, outputRules, callRules, jobRules, planCode, runCode, jobCode, figures, planOf}
 
 -- ---- rules 1 to 7 and 23
@@ -114,7 +115,7 @@ module _ (engine : Engine) (l : Layer) (map kernel : List ℤ) (output scratch :
     unfolding runCode
     callable e =
         let (plan, rest) = both-accept plan-rules call-rules tt e in
-        let (map-length, (kernel-length, (output-length, (words, (peak, (values, (none-blank, (loads, _)))))))) = none-broken call-rules tt rest in
+        let (map-length, (kernel-length, (output-length, (words, (peak, (above, (below, (none-blank, (loads, _))))))))) = none-broken call-rules tt rest in
         record {
           plan = planned lawful l (run-plans e);
           map-length = eqb-true _ _ map-length;
@@ -123,7 +124,7 @@ module _ (engine : Engine) (l : Layer) (map kernel : List ℤ) (output scratch :
           scratch-low = leb-true _ _ words;
           peak-low = inside-low 1 32767 (l .peak) peak;
           peak-high = inside-high 1 32767 (l .peak) peak;
-          values = values;
+          values = both-within l map above below;
           none-blank = none-blank;
           loads = loads;
         }

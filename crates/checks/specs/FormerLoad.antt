@@ -10,7 +10,7 @@ use Rattle.base.specs.Rules.{rule, firstBroken}
 use Rattle.layer.specs.declared.shape.Layer.{Layer}
 use Rattle.load.specs.Load.{sizeTotal, loadLimit}
 use Rattle.checks.specs.Engine.{Engine}
-use Rattle.checks.specs.Rules.{valuesRule, blankRule}
+use Rattle.checks.specs.Rules.{aboveRule, belowRule, blankRule}
 use Rattle.checks.specs.Checks.{shapeRules, outputRules, lentRules, jobRules}
 
 -- A times the sum of the sizes of all weights that reach output channel m
@@ -25,9 +25,9 @@ module _ (engine : Engine) where
   unfoldable pub formerRunCode : Layer → (map kernel : List ℤ) → (output scratch : ℕ) → ℕ
   formerRunCode l map kernel output scratch =
       firstBroken (shapeRules (engine .last-field) l ++ outputRules l ++ lentRules (engine .words l) l map kernel output scratch
-      ++ valuesRule l map ∷ blankRule l kernel ∷ rule 16 (formerLoadsFit l kernel) ∷ [])
+      ++ aboveRule l map ∷ belowRule l map ∷ blankRule l kernel ∷ rule 16 (formerLoadsFit l kernel) ∷ [])
 
   unfoldable pub formerJobCode : Layer → ℕ → (map kernel : List ℤ) → (output scratch : ℕ) → ℕ
   formerJobCode l next map kernel output scratch =
       firstBroken (shapeRules (engine .last-field) l ++ outputRules l ++ lentRules (engine .words l) l map kernel output scratch
-      ++ valuesRule l map ∷ blankRule l kernel ∷ rule 16 (formerLoadsFit l kernel) ∷ jobRules (engine .total l) next)
+      ++ aboveRule l map ∷ belowRule l map ∷ blankRule l kernel ∷ rule 16 (formerLoadsFit l kernel) ∷ jobRules (engine .total l) next)

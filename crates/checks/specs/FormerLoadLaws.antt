@@ -18,7 +18,7 @@ use Rattle.load.specs.Load.{sizeTotal, load, loadLimit, loadsFit}
 use Rattle.load.specs.GroupLaws.{one-stride-group}
 use Rattle.load.specs.LoadLaws.{load-conv, load-tconv, load-most}
 use Rattle.checks.specs.Engine.{Engine}
-use Rattle.checks.specs.Rules.{valuesRule, blankRule}
+use Rattle.checks.specs.Rules.{aboveRule, belowRule, blankRule}
 use Rattle.checks.specs.Checks.{shapeRules, outputRules, lentRules, jobRules, runCode, jobCode}
 use Rattle.checks.specs.FormerLoad.{formerLoad, formerLoadsFit, formerRunCode, formerJobCode}
 
@@ -62,7 +62,7 @@ module _ (engine : Engine) (l : Layer) (map kernel : List ℤ) (output scratch :
   abbrev earlier : List Rule
   earlier =
       shapeRules (engine .last-field) l ++ outputRules l ++ lentRules (engine .words l) l map kernel output scratch
-      ++ valuesRule l map ∷ blankRule l kernel ∷ []
+      ++ aboveRule l map ∷ belowRule l map ∷ blankRule l kernel ∷ []
 
   pub run-accepted : formerRunCode engine l map kernel output scratch ≡ 0 → runCode engine l map kernel output scratch ≡ 0
   unfolding formerRunCode runCode

@@ -6,6 +6,7 @@ pub mod Callable
 pub mod FormerLoad
 -- laws
 pub mod ChecksLaws
+pub mod OffenderLaws
 pub mod EngineLaws
 pub mod FormerLoadLaws
 pub mod Charts

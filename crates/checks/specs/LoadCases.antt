@@ -13,6 +13,7 @@ use Rattle.layer.specs.Planned.{cropFits}
 use Rattle.layer.specs.declared.shape.Layer.{Layer}
 use Rattle.layer.specs.Shape.{mapCount, outputCount, convSize, tconvSize, scratchWords}
 use Rattle.load.specs.Load.{sizeTotal, groupTotal, greatestGroup, load, loadsFit, withinPeak}
+use Rattle.load.specs.Offender.{firstBeyond, offenderOf}
 use Rattle.load.specs.Blank.{blank, noneBlank}
 use Rattle.checks.specs.Engine.{tileEngine}
 use Rattle.checks.specs.Checks.{planCode, runCode}
@@ -73,6 +74,6 @@ cases =
 
 -- every case of the table holds
 pub cases-hold : T (allHold cases)
-unfolding allHold cases holds convSize tconvSize sum greatest planCode runCode formerRunCode inside cropFits withinPeak
+unfolding allHold cases holds convSize tconvSize sum greatest planCode runCode formerRunCode inside cropFits withinPeak offenderOf firstBeyond
     noneBlank blank loadsFit formerLoadsFit load formerLoad sizeTotal groupTotal greatestGroup
 cases-hold = tt

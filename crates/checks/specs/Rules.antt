@@ -1,6 +1,6 @@
--- 01, "Returned by number", and 02, E7 and E10: the rules 1 to 17, 23 and 24, one definition each. A rule holds where its number is not returned.
+-- 01, "Returned by number", and 02, E7, E10 and E11: the rules 1 to 17 and 23 to 25, one definition each. A rule holds where its number is not returned.
 -- The lists of the rules that a plan, a run and a job are checked by are in `Checks`.
-use mathlib.Core.Bool.{_&&_}
+use mathlib.Core.Bool.{_&&_, not}
 use mathlib.Core.List.{List}
 use Prim.Native.Nat.{ℕ}
 use lib.Dec.{leb, ltb, eqb}
@@ -10,7 +10,8 @@ use Rattle.base.specs.Rules.{Rule, rule, inside}
 use Rattle.layer.specs.declared.shape.Layer.{Layer}
 use Rattle.layer.specs.Shape.{mapCount, kernelCount, outputCount, fullHeight, fullWidth}
 use Rattle.layer.specs.Planned.{addedFits, hasOutput, cropFits}
-use Rattle.load.specs.Load.{loadsFit, withinPeak}
+use Rattle.load.specs.Load.{loadsFit}
+use Rattle.load.specs.Offender.{offenderOf}
 use Rattle.load.specs.Blank.{noneBlank}
 
 module _ (l : Layer) where
@@ -70,9 +71,13 @@ module _ (l : Layer) where
   abbrev pub peakRule : Rule
   peakRule = rule 14 (inside 1 32767 (l .peak))
 
-  -- 15: no map value is beyond A
-  abbrev pub valuesRule : (map : List ℤ) → Rule
-  valuesRule map = rule 15 (withinPeak (l .peak) map)
+  -- 15: the first map value beyond the peak, if there is one, is not above A
+  abbrev pub aboveRule : (map : List ℤ) → Rule
+  aboveRule map = rule 15 (not (eqb (offenderOf l map .side) 1))
+
+  -- 25: nor is it below −A
+  abbrev pub belowRule : (map : List ℤ) → Rule
+  belowRule map = rule 25 (not (eqb (offenderOf l map .side) 2))
 
   -- 24: no output channel is blank
   abbrev pub blankRule : (kernel : List ℤ) → Rule

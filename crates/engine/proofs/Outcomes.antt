@@ -8,8 +8,9 @@ use lib.IntN.{ℤ}
 use lib.ListN.{length}
 use Rattle.base.specs.RulesLaws.{outcome-made, outcome-lent}
 use Rattle.layer.specs.declared.shape.Layer.{Layer}
+use Rattle.load.specs.declared.offender.Offender.{Offender}
 use Rattle.checks.specs.Engine.{Engine}
-use Rattle.checks.specs.Checks.{planCode, figures, planOf}
+use Rattle.checks.specs.Checks.{offenderWith, planCode, figures, planOf}
 use Rattle.checks.specs.ChecksLaws.{run-plans, job-runs}
 use Rattle.engine.specs.declared.job.Job.{Job}
 use Rattle.engine.specs.declared.job.Progress.{Progress}
@@ -19,12 +20,12 @@ module _ (engine : Engine) (job : Job) (budget : ℕ) (map kernel output : List 
   abbrev code : ℕ
   code = callCode engine job map kernel (length output) (length scratch)
 
-  pub refused-call : (answer : ℕ) → answer ≡ code → (answer ≡ 0 → ⊥)
-      → Called engine job budget map kernel output scratch (refused job answer) output scratch
-  refused-call answer e broken =
+  pub refused-call : (answer : ℕ) {offender : Offender} → answer ≡ code → (answer ≡ 0 → ⊥) → offender ≡ offenderWith answer (job .layer) map
+      → Called engine job budget map kernel output scratch (refused job answer offender) output scratch
+  refused-call answer e broken place =
       let stopped : code ≡ 0 → ⊥ = λ z. broken (e ∙ z) in
       record {
-        answers = ap (refused job) e ∙ sym (outcome-lent _ _ code stopped);
+        answers = ap (refused job answer) place ∙ ap (λ (n : ℕ). refused job n (offenderWith n (job .layer) map)) e ∙ sym (outcome-lent _ _ code stopped);
         writes = sym (outcome-lent _ _ code stopped);
         clears = sym (outcome-lent _ _ code stopped);
       }

@@ -1,4 +1,4 @@
--- 01, "A job": what one call comes to, in any engine, for every job, budget, length and value. A refused call leaves everything as it was lent.
+-- 01, "A job", and 02, E11: what one call comes to, in any engine, for every job, budget, length and value. A refused call leaves everything as it was lent.
 use mathlib.Core.Path.{_≡_}
 use mathlib.Core.Bool.{false, _&&_, cond}
 use mathlib.Core.List.{List}
@@ -10,8 +10,10 @@ use Rattle.algebra.specs.Places.{table}
 use Rattle.base.specs.Rules.{outcome}
 use Rattle.layer.specs.declared.shape.Layer.{Layer}
 use Rattle.layer.specs.Direct.{directAt}
+use Rattle.load.specs.declared.offender.Offender.{Offender}
+use Rattle.load.specs.Offender.{noOffender}
 use Rattle.checks.specs.Engine.{Engine}
-use Rattle.checks.specs.Checks.{runCode, jobCode}
+use Rattle.checks.specs.Checks.{runCode, jobCode, offenderWith}
 use Rattle.engine.specs.declared.job.Job.{Job}
 use Rattle.engine.specs.declared.job.Progress.{Progress}
 
@@ -20,8 +22,8 @@ abbrev pub startOf : Layer → Job
 startOf l = record { layer = l; next = 0 }
 
 -- what a refused call answers: the job as given
-abbrev pub refused : Job → (code : ℕ) → Progress
-refused job code = record { code = code; count = 0; job = job; done = false }
+abbrev pub refused : Job → (code : ℕ) → (offender : Offender) → Progress
+refused job code offender = record { code = code; count = 0; job = job; done = false; offender = offender }
 
 -- scratch with the first `count` words 0, later ones as lent
 unfoldable pub cleared : (count : ℕ) → List ℕ → List ℕ
@@ -41,16 +43,18 @@ module _ (engine : Engine) where
     count = count;
     job = record { layer = job .layer; next = job .next + count };
     done = eqb (job .next + count) (engine .total (job .layer));
+    offender = noOffender;
   }
 
   -- the number of the first check broken, or 0. The checks read the map and the kernel, and the lengths of output and scratch
   abbrev pub callCode : Job → (map kernel : List ℤ) → (output scratch : ℕ) → ℕ
   callCode job map kernel output scratch = jobCode engine (job .layer) (job .next) map kernel output scratch
 
-  -- what a call of the job with that budget answers
+  -- what a call of the job with that budget answers; with 15 and 25 the first map value beyond the peak, zeros with any other number
   abbrev pub answerOf : Job → (budget : ℕ) → (map kernel : List ℤ) → (output scratch : ℕ) → Progress
   answerOf job budget map kernel output scratch =
-      outcome (callCode job map kernel output scratch) (accepted job (countOf job budget)) (refused job (callCode job map kernel output scratch))
+      let code = callCode job map kernel output scratch in
+      outcome code (accepted job (countOf job budget)) (refused job code (offenderWith code (job .layer) map))
 
   -- ---- the output
 

@@ -16,6 +16,7 @@ use Rattle.layer.specs.declared.shape.Layer.{Layer}
 use Rattle.layer.specs.Direct.{directAt}
 use Rattle.checks.specs.Callable.{Callable}
 use Rattle.checks.specs.Engine.{Engine, Lawful}
+use Rattle.checks.specs.Checks.{offenderWith}
 use Rattle.checks.specs.ChecksLaws.{job-callable}
 use Rattle.engine.specs.declared.job.Job.{Job}
 use Rattle.engine.specs.declared.job.Progress.{Progress}
@@ -42,7 +43,7 @@ module _ {engine : Engine} {job : Job} {budget : ℕ} {map kernel output : List 
     pub called-code : progress .code ≡ called
     called-code = ap (λ (p : Progress). p .code) (call .answers) ∙ by-code called
       where
-        by-code : (code : ℕ) → outcome code (accepted engine job (countOf engine job budget)) (refused job code) .code ≡ code
+        by-code : (code : ℕ) → outcome code (accepted engine job (countOf engine job budget)) (refused job code (offenderWith code (job .layer) map)) .code ≡ code
         by-code zero = refl
         by-code (suc code) = refl
 

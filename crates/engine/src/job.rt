@@ -2,9 +2,10 @@
 use crate::tiles::finish_tiles;
 use base::number::lesser;
 use base::words::clear;
-use checks::calls::job_code;
+use checks::calls::check_job;
 use layer::shape::Layer;
 use layer::sizes;
+use load::offender::Offender;
 ghost use mathlib.Core.Path.{_≡_};
 ghost use Rattle.checks.specs.Engine.{tileEngine};
 ghost use Rattle.engine.specs.Call.{startOf, Called};
@@ -20,6 +21,7 @@ pub struct Progress {
     pub count: usize, // tiles finished in the call
     pub job: Job, // the moved job, or the job as given where the call is refused
     pub done: bool, // no tile is left
+    pub offender: Offender, // the first map value beyond the peak where the code is 15 or 25; zeros with any other
 }
 
 impl Job {
@@ -46,13 +48,15 @@ impl Job {
     {
         let layer = self.layer;
         let next = self.next;
-        let code = job_code(layer, next, map, kernel, output.len(), scratch.len());
-        if code != 0 {
+        let checked = check_job(layer, next, map, kernel, output.len(), scratch.len());
+        let offender = checked.offender;
+        if checked.code != 0 {
             return Progress {
-                code: code,
+                code: checked.code,
                 count: 0,
                 job: self,
                 done: false,
+                offender: offender,
             };
         }
         let total = sizes::tile_total(layer);
@@ -68,6 +72,7 @@ impl Job {
                 next: to,
             },
             done: to == total,
+            offender: offender,
         }
     }
 }

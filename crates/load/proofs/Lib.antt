@@ -2,3 +2,4 @@ mod Apart
 mod GroupSums
 mod KernelPlanes
 mod Peaks
+mod Searches

@@ -13,6 +13,7 @@ use groups::group_total;
 use layer::shape::Layer;
 
 pub mod groups;
+pub mod offender;
 pub mod values;
 
 // What the check finds of one output channel, or of all of them.

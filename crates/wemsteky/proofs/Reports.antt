@@ -1,4 +1,4 @@
--- A call's answer as its code and three figures. The layer of the call is that of the sixteen numbers.
+-- A call's answer as its code and seven figures. The layer of the call is that of the sixteen numbers.
 use mathlib.Core.Path.{_≡_}
 use mathlib.Core.List.{List}
 use Prim.Native.Nat.{ℕ}

@@ -5,6 +5,7 @@ use mathlib.Core.List.{List, [], _∷_}
 use Prim.Native.Nat.{ℕ}
 use lib.IntN.{ℤ}
 use Rattle.layer.specs.declared.shape.Plan.{Plan}
+use Rattle.load.specs.declared.offender.Offender.{Offender}
 use Rattle.checks.specs.Engine.{Engine}
 use Rattle.engine.specs.declared.job.Job.{Job}
 use Rattle.engine.specs.declared.job.Progress.{Progress}
@@ -14,11 +15,15 @@ use Rattle.engine.specs.Call.{Called}
 abbrev pub planFigures : Plan → List ℕ
 planFigures plan = plan .height ∷ plan .width ∷ plan .tiles ∷ plan .scratch ∷ []
 
--- the count, the index of the next tile, and 1 where done
-abbrev pub progressFigures : Progress → List ℕ
-progressFigures progress = progress .count ∷ progress .job .next ∷ cond (progress .done) 1 0 ∷ []
+-- the channel, row, column and side of a map value beyond the peak
+abbrev pub offenderFigures : Offender → List ℕ
+offenderFigures offender = offender .channel ∷ offender .row ∷ offender .column ∷ offender .side ∷ []
 
--- a call of a job whose answer comes as its code and three figures
+-- the count, the index of the next tile, 1 where done, and the map value that 15 and 25 speak of
+abbrev pub progressFigures : Progress → List ℕ
+progressFigures progress = progress .count ∷ progress .job .next ∷ cond (progress .done) 1 0 ∷ offenderFigures (progress .offender)
+
+-- a call of a job whose answer comes as its code and seven figures
 pub record Reported
     (engine : Engine) (job : Job) (budget : ℕ) (map kernel output : List ℤ) (scratch : List ℕ) (code : ℕ) (figures : List ℕ) (output-left : List ℤ) (scratch-left : List ℕ)
     : Type 0

@@ -27,12 +27,20 @@ pub extern "C" fn wemsteky_plan(layer: &[usize; 16], figures: &mut [usize; 4]) -
     plan.code
 }
 
-// The count, the index of the next tile and the done mark of a call.
-fn report(progress: Progress, figures: &mut [usize; 3]) -> usize
+// The count, the index of the next tile and the done mark of a call; channel, row, column and side of the map value that 15 and 25 speak of.
+fn report(progress: Progress, figures: &mut [usize; 7]) -> usize
     ensures { λ r. ⌜ r ≡ progress .code ⌝ }
     ensures { λ _. ⌜ now (figures .exit) ≡ progressFigures progress ⌝ }
 {
-    *figures = [progress.count, progress.job.next, progress.done as usize];
+    *figures = [
+        progress.count,
+        progress.job.next,
+        progress.done as usize,
+        progress.offender.channel,
+        progress.offender.row,
+        progress.offender.column,
+        progress.offender.side,
+    ];
     progress.code
 }
 
@@ -43,7 +51,7 @@ pub extern "C" fn wemsteky_run(
     kernel: &[i16],
     output: &mut [i32],
     scratch: &mut [u64],
-    figures: &mut [usize; 3],
+    figures: &mut [usize; 7],
 ) -> usize
     ensures { λ r. ⌜ Reported tileEngine (startOf (layerOf (now (layer .entry)))) (tileTotal (layerOf (now (layer .entry)))) (now (map .entry)) (now (kernel .entry)) (now (output .entry)) (now (scratch .entry)) r (now (figures .exit)) (now (output .exit)) (now (scratch .exit)) ⌝ }
 {
@@ -60,7 +68,7 @@ pub extern "C" fn wemsteky_job(
     kernel: &[i16],
     output: &mut [i32],
     scratch: &mut [u64],
-    figures: &mut [usize; 3],
+    figures: &mut [usize; 7],
 ) -> usize
     ensures { λ r. ⌜ Reported tileEngine (record { layer = layerOf (now (layer .entry)); next = next }) budget (now (map .entry)) (now (kernel .entry)) (now (output .entry)) (now (scratch .entry)) r (now (figures .exit)) (now (output .exit)) (now (scratch .exit)) ⌝ }
 {

@@ -1,10 +1,11 @@
 -- The done mark as a number.
 use mathlib.Core.Path.{_≡_, refl, ap}
 use mathlib.Core.Bool.{Bool, true, false, cond}
-use mathlib.Core.List.{[], _∷_}
+use mathlib.Core.List.{_∷_}
 use Prim.Native.Nat.{ℕ}
 use mir.Val.{boolByte}
 use borrow.Author.Needs.{needs}
+use Rattle.wemsteky.specs.Figures.{offenderFigures}
 use Rattle.wemsteky.proofs.report.Statement.{statement}
 use Rattle.wemsteky.proofs.report.Tie as tie
 
@@ -18,7 +19,7 @@ cast-t3 c = search needs
 returns : tie.Need-returns
 returns c =
     let p = c .before .before .args .progress in
-    (refl, ap (λ (mark : ℕ). p .count ∷ p .job .next ∷ mark ∷ []) (marked (p .done)))
+    (refl, ap (λ (mark : ℕ). p .count ∷ p .job .next ∷ mark ∷ offenderFigures (p .offender)) (marked (p .done)))
 
 pub report-spec : {M : Type 1} → statement M
 report-spec = tie.close (tie.spec cast-t3 returns)

@@ -6,10 +6,12 @@ use lib.ListN.{length}
 use borrow.Author.Needs.{needs}
 use denote.Ref.{now}
 use Rattle.layer.specs.Shape.{scratchWords, tileTotal}
+use Rattle.load.specs.Offender.{noOffender}
 use Rattle.checks.specs.Callable.{Callable}
 use Rattle.checks.specs.Engine.{tileEngine}
 use Rattle.checks.specs.ChecksLaws.{job-callable}
 use Rattle.checks.specs.EngineLaws.{tile-lawful}
+use Rattle.checks.specs.OffenderLaws.{accepted-place}
 use Rattle.engine.specs.Call.{callCode}
 use Rattle.engine.proofs.Outcomes.{refused-call, accepted-call}
 use Rattle.engine.proofs.Scratch.{changed-cleared}
@@ -17,17 +19,23 @@ use Rattle.engine.proofs.job.Job.advance.Statement.{statement}
 use Rattle.engine.proofs.job.Job.advance.Tie as tie
 
 -- the code is found
-module _ (c : tie.After-job-code) where
+module _ (c : tie.After-check-job) where
   abbrev start : tie.Start
   start = c .before .before .before
 
 -- it is 0: what that says of the call
 module _ (c : tie.Else1) where
+  abbrev code : tie.After-check-job
+  code = c .before .before .before
+
   abbrev call : tie.Start
-  call = start (c .before)
+  call = start code
 
   accepts : let g = call .args in callCode tileEngine (g .self) (now (g .map)) (now (g .kernel)) (length (now (g .output))) (length (now (g .scratch))) ≡ 0
-  accepts = sym (c .before .job-code .ensures) ∙ c .if1 .left
+  accepts = sym (code .check-job .ensures .0) ∙ c .if1 .left
+
+  no-place : code .check-job .result .offender ≡ noOffender
+  no-place = code .check-job .ensures .1 ∙ accepted-place (call .args .self .layer) (now (call .args .map)) (c .if1 .left)
 
   passed : let g = call .args in
       Callable tileEngine (g .self .layer) (now (g .map)) (now (g .kernel)) (length (now (g .output))) (length (now (g .scratch)))
@@ -54,14 +62,15 @@ module _ (c : tie.After-finish-tiles) where
 abbrev finish : tie.After-clear-arg → tie.After-finish-tiles
 finish c = c .before .before .before .before
 
-job-code-requires : tie.Need-job-code-requires
-job-code-requires c κs = search needs
+check-job-requires : tie.Need-check-job-requires
+check-job-requires c κs = search needs
 
 returns : tie.Need-returns
 returns c =
-    let g = start (c .before) .args in
-    refused-call tileEngine (g .self) (g .budget) (now (g .map)) (now (g .kernel)) (now (g .output)) (now (g .scratch)) (c .before .job-code .result)
-    (c .before .job-code .ensures) (c .if1 .taken)
+    let code : tie.After-check-job = search in
+    let g = start code .args in
+    refused-call tileEngine (g .self) (g .budget) (now (g .map)) (now (g .kernel)) (now (g .output)) (now (g .scratch)) (code .check-job .result .code)
+    (code .check-job .ensures .0) (c .if1 .taken) (code .check-job .ensures .1)
 
 tile-total-requires : tie.Need-tile-total-requires
 tile-total-requires c κs = passed c .0 .plan
@@ -104,7 +113,7 @@ returns-2 c =
     let g = call else .args in
     let is = rw (n .before .tile-total .ensures) at (n .lesser .ensures) in
     let none = rw (cleared .before .scratch-words .ensures) at (cleared .clear .ensures) in
-    rw (n .before .tile-total .ensures)
+    rw (n .before .tile-total .ensures, no-place else)
     (accepted-call tileEngine (g .self) (g .budget) (now (g .map)) (now (g .kernel)) (now (g .output)) (now (g .scratch)) (n .lesser .result)
     (accepts else) is (tiles .finish-tiles .ensures .0)
     (changed-cleared (scratchWords (g .self .layer)) (passed else .0 .scratch-low) (tiles .finish-tiles .ensures .1) none))
@@ -113,7 +122,7 @@ pub advance-spec : {M : Type 1} → statement M
 advance-spec =
     tie.close
     (tie.spec
-    job-code-requires
+    check-job-requires
     returns
     tile-total-requires
     sub-lesser
