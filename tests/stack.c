@@ -34,7 +34,7 @@ static void *plan(void *with)
 static void *run(void *with)
 {
     const size_t *layer = with;
-    size_t figures[3];
+    size_t figures[7];
     answer = wemsteky_run(layer, map, layer[4] * layer[5], kernel, layer[3] * layer[6] * layer[6], output, layer[3] * layer[12] * layer[13],
                           scratch, 12288, figures);
     return NULL;
@@ -43,7 +43,7 @@ static void *run(void *with)
 static void *job(void *with)
 {
     const size_t *layer = with;
-    size_t figures[3];
+    size_t figures[7];
     answer = wemsteky_job(layer, 0, 1, map, layer[4] * layer[5], kernel, layer[3] * layer[6] * layer[6], output,
                           layer[3] * layer[12] * layer[13], scratch, 12288, figures);
     return NULL;

@@ -19,7 +19,7 @@ pub enum Answer {
 #[derive(Debug, Default)]
 pub struct Seen {
     pub frames: usize,
-    pub refused: [usize; 25],
+    pub refused: [usize; 26],
     pub unreadable: usize,
 }
 
@@ -79,7 +79,7 @@ fn kind(text: &str) -> Answer {
         Answer::Unreadable
     } else if let Some(number) = text.strip_prefix("refused ") {
         let number = number.trim_end().parse().expect("a number comes after the word refused");
-        assert!(matches!(number, 1..=9 | 14..=16 | 24), "no input is refused by {number}");
+        assert!(matches!(number, 1..=9 | 14..=16 | 24 | 25), "no input is refused by {number}");
         assert_eq!(text, format!("refused {number}\n"));
         Answer::Refused(number)
     } else {

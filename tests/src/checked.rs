@@ -7,7 +7,7 @@ use crate::draw;
 use crate::engine::{self, Answer};
 use crate::layer::Layer;
 use crate::random::Random;
-use crate::rules;
+use crate::rules::{self, Offender};
 use std::fmt::Debug;
 use std::ops::Range;
 
@@ -67,16 +67,21 @@ fn held(
     answer
 }
 
-/// What a job call must answer. A refused one finishes nothing, hands its index back and is not done.
+/// What a job call must answer. A refused one finishes nothing, hands its index back and is not done; 15 and 25 come with
+/// the first map value beyond the peak, any other number with zeros.
 pub fn expected_answer(call: &Call) -> Answer {
     let number = rules::job_number(call);
     if number != 0 {
-        return Answer { number, count: 0, next: call.next, done: 0 };
+        let offender = match number {
+            15 | 25 => rules::offender(&call.layer, &call.map),
+            _ => Offender::default(),
+        };
+        return Answer { number, count: 0, next: call.next, done: 0, offender };
     }
     let total = call.layer.tile_total();
     let count = call.budget.min(total - call.next);
     let next = call.next + count;
-    Answer { number, count, next, done: usize::from(next == total) }
+    Answer { number, count, next, done: usize::from(next == total), offender: Offender::default() }
 }
 
 /// Writes what the outputs of some tiles must be: their sums, or what was found where no sums are given.

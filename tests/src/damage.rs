@@ -129,9 +129,11 @@ const LENT: [Entry; 24] = [
     (12, "no output", |call| call.output_length = 0),
     (13, "scratch one short", |call| call.scratch_length = call.layer.scratch_words() - 1),
     (13, "no scratch", |call| call.scratch_length = 0),
-    (15, "first value one beyond the peak", |call| call.map[0] = beyond(call.layer.peak)),
-    (15, "last value one beyond the peak", |call| *call.map.last_mut().unwrap() = -(call.layer.peak as i16) - 1),
-    (15, "some value is -32,768", |call| {
+    (15, "first value one above the peak", |call| set_above(call, 0)),
+    (25, "last value one below the peak's negative", |call| {
+        *call.map.last_mut().unwrap() = -(call.layer.peak as i16) - 1
+    }),
+    (25, "some value is -32,768", |call| {
         let middle = call.map.len() / 2;
         call.map[middle] = i16::MIN;
     }),
@@ -149,9 +151,14 @@ const LENT: [Entry; 24] = [
     (17, "index is the greatest number", |call| call.next = usize::MAX),
 ];
 
-/// One above the peak; one below its negative where 16 bits hold no more.
-fn beyond(peak: usize) -> i16 {
-    i16::try_from(peak + 1).unwrap_or(i16::MIN)
+/// Sets a value one above the peak. No value is above 32,767, so that this peak is first made smaller by 1, and with it
+/// the values that were at it.
+pub fn set_above(call: &mut Call, place: usize) {
+    if call.layer.peak == 32_767 {
+        call.layer.peak = 32_766;
+        call.map.iter_mut().for_each(|value| *value = (*value).clamp(-32_766, 32_766));
+    }
+    call.map[place] = call.layer.peak as i16 + 1;
 }
 
 /// Gives a group of a channel the least load above the limit. The peak is raised where 16-bit weights would not reach

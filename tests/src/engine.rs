@@ -1,5 +1,7 @@
 //! The eight functions of include/wemsteky.h, behind slices.
 
+use crate::rules::Offender;
+
 mod c {
     extern "C" {
         pub fn wemsteky_plan(layer: *const usize, figures: *mut usize) -> usize;
@@ -80,6 +82,7 @@ pub struct Answer {
     pub count: usize,
     pub next: usize,
     pub done: usize,
+    pub offender: Offender,
 }
 
 /// The number and the four figures: E, F, the tile total and 3N².
@@ -89,12 +92,12 @@ pub fn plan(layer: &[usize; 16]) -> (usize, [usize; 4]) {
     (number, figures)
 }
 
-/// The answer of a call that returns a number and writes three figures.
+/// The answer of a call that returns a number and writes seven figures.
 fn answer(call: impl FnOnce(*mut usize) -> usize) -> Answer {
-    let mut figures = [UNWRITTEN; 3];
+    let mut figures = [UNWRITTEN; 7];
     let number = call(figures.as_mut_ptr());
-    let [count, next, done] = figures;
-    Answer { number, count, next, done }
+    let [count, next, done, channel, row, column, side] = figures;
+    Answer { number, count, next, done, offender: Offender { channel, row, column, side } }
 }
 
 pub fn run(layer: &[usize; 16], map: &[i16], kernel: &[i16], output: &mut [i32], scratch: &mut [u64]) -> Answer {

@@ -9,7 +9,7 @@ use crate::transform::{modulus, points};
 type Rule = (usize, fn(&Call) -> bool);
 
 /// The table. Rules are ordered by their place in it, not by their number.
-static RULES: [Rule; 19] = [
+static RULES: [Rule; 20] = [
     (1, |call| call.layer.kind == 0 || call.layer.kind == 1),
     (2, |call| call.layer.field == 4 || call.layer.field == 5),
     (3, |call| inside(1, 64, call.layer.inputs) && inside(1, 64, call.layer.outputs)),
@@ -25,7 +25,8 @@ static RULES: [Rule; 19] = [
     (12, |call| call.output_length as u128 == call.layer.output_length()),
     (13, |call| call.scratch_length >= call.layer.scratch_words()),
     (14, |call| inside(1, 32_767, call.layer.peak)),
-    (15, |call| call.map.iter().all(|&value| size(value) <= call.layer.peak as u128)),
+    (15, |call| offender(&call.layer, &call.map).side != ABOVE),
+    (25, |call| offender(&call.layer, &call.map).side != BELOW),
     (24, |call| !(0..call.layer.outputs).any(|channel| is_blank(&call.layer, &call.kernel, channel))),
     (16, |call| (0..call.layer.outputs).all(|channel| load(call, channel) <= load_limit(call.layer.field))),
     (17, |call| call.next <= call.layer.tile_total()),
@@ -37,6 +38,37 @@ fn inside(least: usize, most: usize, number: usize) -> bool {
 
 fn size(value: i16) -> u128 {
     u128::from(value.unsigned_abs())
+}
+
+/// The place of a map value beyond the peak, and its side.
+#[derive(Clone, Copy, Debug, Default, PartialEq, Eq)]
+pub struct Offender {
+    pub channel: usize,
+    pub row: usize,
+    pub column: usize,
+    pub side: usize,
+}
+
+/// The sides of a map value beyond the peak: above it, and below its negative.
+pub const ABOVE: usize = 1;
+pub const BELOW: usize = 2;
+
+/// The first map value beyond the peak, channel by channel and row by row; zeros where there is none.
+pub fn offender(layer: &Layer, map: &[i16]) -> Offender {
+    for channel in 0..layer.inputs {
+        for row in 0..layer.height {
+            for column in 0..layer.width {
+                let value = i128::from(map[(channel * layer.height + row) * layer.width + column]);
+                let peak = layer.peak as i128;
+                if value > peak {
+                    return Offender { channel, row, column, side: ABOVE };
+                } else if value < -peak {
+                    return Offender { channel, row, column, side: BELOW };
+                }
+            }
+        }
+    }
+    Offender::default()
 }
 
 /// Whether so many rows or columns may be added.
@@ -94,9 +126,9 @@ pub const LAST_OF_PLAN: usize = 9;
 pub const LAST_OF_RUN: usize = 16;
 pub const LAST_OF_JOB: usize = 17;
 
-/// The place of a number in the table.
+/// The place of a number in the table. That of 25 is that of 15: no call breaks both.
 pub fn place(number: usize) -> usize {
-    RULES.iter().position(|&(rule, _)| rule == number).unwrap()
+    RULES.iter().position(|&(rule, _)| rule == if number == 25 { 15 } else { number }).unwrap()
 }
 
 /// Whether a number is 0 or that of a rule up to the last one given.

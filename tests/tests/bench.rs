@@ -89,8 +89,10 @@ const SINGLES: &[Single] = &[
     ("10923", "1", "3", Err(16)),
     ("32767", "1", "-32768", Err(16)),
     ("9", "10", "1", Err(15)),
-    ("9", "-10", "1", Err(15)),
-    ("32767", "-32768", "0", Err(15)),
+    ("9", "-10", "1", Err(25)),
+    ("32767", "-32768", "0", Err(25)),
+    ("32766", "32767", "0", Err(15)),
+    ("1", "-32768", "1", Err(25)),
     ("9", "10", "32767", Err(15)),
     ("0", "0", "0", Err(14)),
     ("32768", "1", "1", Err(14)),
@@ -362,7 +364,7 @@ fn drawn_refusals_of_the_run() {
         seen.count(hold(&text(&mut random, &call)));
     }
     assert!(
-        seen.frames > 20 && [14, 15, 16, 24].iter().all(|&number| seen.refused[number] > 20),
+        seen.frames > 20 && [14, 15, 16, 24, 25].iter().all(|&number| seen.refused[number] > 20),
         "{seen:?}, seed {}",
         seed()
     );

@@ -87,7 +87,7 @@ fn blank_planes_and_groups_in_a_channel_that_is_not() {
     }
 }
 
-/// 15 comes before 24, and 24 before 16 and 17, whichever channel is blank and whichever is damaged.
+/// 15 and 25 come before 24, and 24 before 16 and 17, whichever channel is blank and whichever is damaged.
 #[test]
 fn in_order() {
     let damages = damages();
@@ -96,11 +96,11 @@ fn in_order() {
         let layer = breakable_layer(&mut random, trial % 2, 4 + trial / 2 % 2, 4, 12);
         let call = draw::call(&mut random, Layer { outputs: layer.outputs.max(2), ..layer });
         for blank in 0..call.layer.outputs {
-            for damage in damages.iter().filter(|damage| [15, 16, 17].contains(&damage.rule)) {
+            for damage in damages.iter().filter(|damage| [15, 25, 16, 17].contains(&damage.rule)) {
                 let mut damaged = call.clone();
                 damage.apply(&mut damaged);
                 blank_channel(&damaged.layer, &mut damaged.kernel, blank);
-                let number = if damage.rule == 15 { 15 } else { 24 };
+                let number = if [15, 25].contains(&damage.rule) { damage.rule } else { 24 };
                 let mut buffers = draw::buffers(&mut random, &damaged);
                 assert_eq!(checked::job(&damaged, &mut buffers, None).number, number, "{}", damage.name);
             }

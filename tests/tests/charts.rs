@@ -88,7 +88,7 @@ fn case_13() {
         let mut buffers = draw::buffers(&mut Random::new("charts", 3), &call);
         for peak in 1..=32_767 {
             call.layer.peak = peak;
-            assert_eq!(checked::run(&call, &mut buffers, None).number, 15, "peak {peak}");
+            assert_eq!(checked::run(&call, &mut buffers, None).number, 25, "peak {peak}");
         }
     }
     for kind in [CONV, TCONV] {

@@ -41,7 +41,7 @@ fn each_damage_is_answered_by_its_number() {
         }
         assert_eq!(number(&call, &mut buffers), 0, "{:?}", call.layer);
     }
-    assert!((1..=17).chain([23, 24]).all(|rule| damages.iter().any(|damage| damage.rule == rule)));
+    assert!((1..=17).chain([23, 24, 25]).all(|rule| damages.iter().any(|damage| damage.rule == rule)));
 }
 
 #[test]

@@ -1,6 +1,6 @@
 -- 01, "Returned by number": what a plan, a run and a job answer, each by its list of rules in table order. Engines differ in three figures of
 -- them: the last field that is taken, the words of scratch and the total of parts.
-use mathlib.Core.Bool.{cond, _||_}
+use mathlib.Core.Bool.{Bool, cond, _||_}
 use mathlib.Core.List.{List, [], _∷_, _++_}
 use Prim.Native.Nat.{ℕ, zero, suc}
 use lib.Dec.{eqb}
@@ -59,9 +59,12 @@ jobRules total next = indexRule total next ∷ []
 
 -- ---- the answers
 
--- 02, E11: the place and the side that stand with the answers 15 and 25; zeros with any other
+-- 02, E11: the answers 15 and 25 come with the place and the side of the first map value beyond the peak, any other with zeros
+abbrev pub isPlaced : (code : ℕ) → Bool
+isPlaced code = eqb code 15 || eqb code 25
+
 unfoldable pub offenderWith : (code : ℕ) → Layer → (map : List ℤ) → Offender
-offenderWith code l map = cond (eqb code 15 || eqb code 25) (offenderOf l map) noOffender
+offenderWith code l map = cond (isPlaced code) (offenderOf l map) noOffender
 
 module _ (engine : Engine) where
   -- the planner makes 1 to 9 with 23 after 7, a run goes on to 16 with 25 and 24 before it, a job to 17

@@ -1,10 +1,12 @@
--- What the checks of any engine say: what the answer 0 says of a layer and of a call. It rests on the laws of a list of rules.
+-- What the checks of any engine say: what the answer 0 says of a layer and of a call. It rests on the laws of a list of rules. Where all rules hold,
+-- `search` finds the one that is asked for, so that no law counts the rules before it.
 use mathlib.Core.Path.{_≡_, refl, ap}
 use mathlib.Core.Bool.{true, false}
 use mathlib.Core.List.{List, [], _∷_, _++_}
 use Prim.Native.Nat.{ℕ, _+_, _-_, _≤_}
 use native.Mathlib.Omega.{arith}
 use lib.IntN.{ℤ}
+use lib.ListN.{length}
 use borrow.Author.Tests.{leb-true, ltb-true, le-leb, eqb-true}
 use Rattle.algebra.specs.EveryLaws.{both-true}
 use Rattle.base.specs.Rules.{Rule, rule, firstBroken, inside}
@@ -12,7 +14,7 @@ use Rattle.base.specs.RulesLaws.{none-broken, inside-low, inside-high, both-acc
 use Rattle.layer.specs.PlannedLaws.{added-high, height-extent, width-extent, full-high, crop-low, crop-end}
 use Rattle.layer.specs.Planned.{addedFits, hasOutput, cropFits, InRange, Planned}
 use Rattle.layer.specs.declared.shape.Layer.{Layer}
-use Rattle.layer.specs.Shape.{fullHeight, fullWidth}
+use Rattle.layer.specs.Shape.{mapCount, kernelCount, outputCount, fullHeight, fullWidth}
 use Rattle.checks.specs.Callable.{Callable}
 use Rattle.checks.specs.Engine.{Engine, Lawful}
 use Rattle.checks.specs.OffenderLaws.{both-within}
@@ -22,14 +24,14 @@ use Rattle.checks.specs.Checks.{shapeRules, outputRules, callRules, jobR
 
 pub in-range : (last : ℕ) → last ≤ 5 → (l : Layer) → firstBroken (shapeRules last l) ≡ 0 → InRange l
 in-range last known l e =
-    let (kind, (field, (channels, (map, (side, (stride, (padding, (added, _)))))))) = none-broken (shapeRules last l) tt e in
-    let (inputs, outputs) = both-true (inside 1 64 (l .inputs)) (inside 1 64 (l .outputs)) channels in
-    let (height, width) = both-true (inside 1 512 (l .height)) (inside 1 512 (l .width)) map in
-    let (below, beside) = both-true (addedFits l (l .below)) (addedFits l (l .beside)) added in
+    let hold = none-broken (shapeRules last l) tt e in
+    let (inputs, outputs) = both-true (inside 1 64 (l .inputs)) (inside 1 64 (l .outputs)) search in
+    let (height, width) = both-true (inside 1 512 (l .height)) (inside 1 512 (l .width)) search in
+    let (below, beside) = both-true (addedFits l (l .below)) (addedFits l (l .beside)) search in
     record {
-      kind-high = inside-high 0 1 (l .kind) kind;
-      field-low = inside-low 4 last (l .field) field;
-      field-high = omega (arith, inside-high 4 last (l .field) field);
+      kind-high = inside-high 0 1 (l .kind) search;
+      field-low = inside-low 4 last (l .field) search;
+      field-high = let taken : l .field ≤ last = inside-high 4 last (l .field) search in omega arith;
       inputs-low = inside-low 1 64 (l .inputs) inputs;
       inputs-high = inside-high 1 64 (l .inputs) inputs;
       outputs-low = inside-low 1 64 (l .outputs) outputs;
@@ -38,11 +40,11 @@ in-range last known l e =
       height-high = inside-high 1 512 (l .height) height;
       width-low = inside-low 1 512 (l .width) width;
       width-high = inside-high 1 512 (l .width) width;
-      side-low = inside-low 1 11 (l .side) side;
-      side-high = inside-high 1 11 (l .side) side;
-      stride-low = inside-low 1 4 (l .stride) stride;
-      stride-high = inside-high 1 4 (l .stride) stride;
-      padding-high = ltb-true (l .padding) (l .side) padding;
+      side-low = inside-low 1 11 (l .side) search;
+      side-high = inside-high 1 11 (l .side) search;
+      stride-low = inside-low 1 4 (l .stride) search;
+      stride-high = inside-high 1 4 (l .stride) search;
+      padding-high = ltb-true (l .padding) (l .side) search;
       below-high = added-high l (l .below) below;
       beside-high = added-high l (l .beside) beside;
     }
@@ -53,9 +55,9 @@ pub planned : {engine : Engine} → Lawful engine → (l : Layer) → planCode e
 unfolding planCode
 planned {engine} lawful l e =
     let (shape, output) = both-accept (shapeRules (engine .last-field) l) (outputRules l) tt e in
-    let (outputs, (crop, _)) = none-broken (outputRules l) tt output in
-    let (height, width) = both-true (hasOutput l (l .height) (l .below)) (hasOutput l (l .width) (l .beside)) outputs in
-    let (rows, columns) = both-true (cropFits (l .top) (l .rows) (fullHeight l)) (cropFits (l .left) (l .columns) (fullWidth l)) crop in
+    let hold = none-broken (outputRules l) tt output in
+    let (height, width) = both-true (hasOutput l (l .height) (l .below)) (hasOutput l (l .width) (l .beside)) search in
+    let (rows, columns) = both-true (cropFits (l .top) (l .rows) (fullHeight l)) (cropFits (l .left) (l .columns) (fullWidth l)) search in
     let r = in-range (engine .last-field) (lawful .known) l shape in
     record {
       shape = r;
@@ -115,18 +117,18 @@ module _ (engine : Engine) (l : Layer) (map kernel : List ℤ) (output scratch :
     unfolding runCode
     callable e =
         let (plan, rest) = both-accept plan-rules call-rules tt e in
-        let (map-length, (kernel-length, (output-length, (words, (peak, (above, (below, (none-blank, (loads, _))))))))) = none-broken call-rules tt rest in
+        let hold = none-broken call-rules tt rest in
         record {
           plan = planned lawful l (run-plans e);
-          map-length = eqb-true _ _ map-length;
-          kernel-length = eqb-true _ _ kernel-length;
-          output-length = eqb-true _ _ output-length;
-          scratch-low = leb-true _ _ words;
-          peak-low = inside-low 1 32767 (l .peak) peak;
-          peak-high = inside-high 1 32767 (l .peak) peak;
-          values = both-within l map above below;
-          none-blank = none-blank;
-          loads = loads;
+          map-length = eqb-true (length map) (mapCount l) search;
+          kernel-length = eqb-true (length kernel) (kernelCount l) search;
+          output-length = eqb-true output (outputCount l) search;
+          scratch-low = leb-true (engine .words l) scratch search;
+          peak-low = inside-low 1 32767 (l .peak) search;
+          peak-high = inside-high 1 32767 (l .peak) search;
+          values = both-within l map (search) (search);
+          none-blank = search;
+          loads = search;
         }
 
     -- what the rules of a job give

@@ -11,3 +11,4 @@ pub mod EngineLaws
 pub mod FormerLoadLaws
 pub mod Charts
 pub mod LoadCases
+pub mod OffenderCases

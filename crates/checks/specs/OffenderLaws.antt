@@ -1,6 +1,6 @@
 -- What the rules 15 and 25 say, and the place and the side that stand with an answer. It rests on the laws of the first value beyond the peak.
 use mathlib.Core.Path.{_≡_, refl, sym, ap, _∙_}
-use mathlib.Core.Bool.{Bool, true, false, cond, not, _||_, _&&_, true≢false}
+use mathlib.Core.Bool.{Bool, true, false, cond, not, _&&_, true≢false}
 use mathlib.Core.List.{List, [], _∷_}
 use mathlib.Core.Logic.{⊎-elim}
 use Prim.Native.Nat.{ℕ}
@@ -13,7 +13,7 @@ use Rattle.load.specs.declared.offender.Offender.{Offender}
 use Rattle.load.specs.Load.{withinPeak}
 use Rattle.load.specs.Offender.{noOffender, offenderOf}
 use Rattle.load.specs.OffenderLaws.{offender-none, offender-side}
-use Rattle.checks.specs.Checks.{mapValueRules, offenderWith}
+use Rattle.checks.specs.Checks.{mapValueRules, isPlaced, offenderWith}
 
 module _ (l : Layer) (map : List ℤ) where
   -- no value is beyond the peak where both rules hold
@@ -41,13 +41,13 @@ accepted-place l map e = rw e
 -- and so does an answer of other rules
 abbrev pub placeless : List Rule → Bool
 placeless [] = true
-placeless (rule number holds ∷ rules) = not (eqb number 15 || eqb number 25) && placeless rules
+placeless (rule number holds ∷ rules) = not (isPlaced number) && placeless rules
 
 no-place : (l : Layer) (map : List ℤ) (rules : List Rule) → T (placeless rules) → offenderWith (firstBroken rules) l map ≡ noOffender
 unfolding offenderWith
 no-place l map [] other = refl
-no-place l map (rule number true ∷ rules) other = no-place l map rules (and-yes (not (eqb number 15 || eqb number 25)) (placeless rules) other .1)
-no-place l map (rule number false ∷ rules) other = by-test (eqb number 15 || eqb number 25) (and-yes (not (eqb number 15 || eqb number 25)) (placeless rules) other .0)
+no-place l map (rule number true ∷ rules) other = no-place l map rules (and-yes (not (isPlaced number)) (placeless rules) other .1)
+no-place l map (rule number false ∷ rules) other = by-test (isPlaced number) (and-yes (not (isPlaced number)) (placeless rules) other .0)
   where
     by-test : (t : Bool) → T (not t) → cond t (offenderOf l map) noOffender ≡ noOffender
     by-test true other = absurd other

@@ -94,9 +94,9 @@ pub fn check_job(
     if lent != 0 {
         return without_place(lent);
     }
-    let found = check_values(layer, map, kernel);
-    if found.code != 0 {
-        return found;
+    let values = check_values(layer, map, kernel);
+    if values.code != 0 {
+        return values;
     }
     without_place(rules::next(0, 17, next <= sizes::tile_total(layer)))
 }

@@ -1,6 +1,6 @@
 -- What the definition of the first value beyond the peak says: its place is one of the map's, the value there is beyond the peak on that side, and no
 -- value before it is; and there is no other such place. It rests on the laws of planes.
-use mathlib.Core.Path.{_≡_, refl, sym, ap, _∙_}
+use mathlib.Core.Path.{_≡_, refl}
 use mathlib.Core.Bool.{Bool, true, false, cond, true≢false}
 use mathlib.Core.List.{List, [], _∷_}
 use mathlib.Core.Logic.{_⊎_, inl, inr}

@@ -1,9 +1,9 @@
 -- 01, "The two product sums", and 02, E7: the theorem on two whole lists of calls, each of an engine of its own, for every stride, and 01's
 -- demand 3, where the stride divides, as its corollary. It rests on what the lists leave where
 -- their budgets reach the total, on the product law, and on the sizes of a CONV layer and of the TCONV layer that leads back.
-use mathlib.Core.Path.{_≡_, refl, sym, ap, ap₂, _∙_}
+use mathlib.Core.Path.{_≡_, refl, sym, ap₂, _∙_}
 use mathlib.Core.List.{List}
-use Prim.Native.Nat.{ℕ, _+_, _*_, _-_, _%_, _<_, _≤_}
+use Prim.Native.Nat.{ℕ, _+_, _*_, _-_, _<_}
 use native.Mathlib.Omega.{arith}
 use lib.Arith.{digits-lt}
 use lib.IntN.{ℤ, pos, _*ℤ_}

@@ -4,7 +4,7 @@ use super::rows;
 use crate::call::Call;
 use crate::direct::direct_sums;
 use crate::layer::{Layer, CONV, TCONV};
-use crate::rules::{job_number, plan_number};
+use crate::rules::{job_number, offender, plan_number, BELOW};
 
 const X: [i16; 9] = [1, 2, 3, 4, 5, 6, 7, 8, 9];
 const Y: [i16; 4] = [1, 2, 3, 4];
@@ -80,9 +80,12 @@ fn plans() -> String {
         .concat()
 }
 
-/// −32,768 under every peak: how many are answered with 15.
+/// −32,768 under every peak: how many are answered with 25, the value being below the peak's negative.
 fn peaks() -> String {
-    let is_beyond = |&peak: &usize| job_number(&call(layer(CONV, 1, (1, 1, 0), peak), &[i16::MIN], &[0])) == 15;
+    let is_beyond = |&peak: &usize| {
+        let call = call(layer(CONV, 1, (1, 1, 0), peak), &[i16::MIN], &[0]);
+        job_number(&call) == 25 && offender(&call.layer, &call.map).side == BELOW
+    };
     format!("case 13 refused {} \n", (1..=32_767).filter(is_beyond).count())
 }
 

@@ -1,6 +1,6 @@
 -- `load_fits`: the sum of all sizes decides where it is within the limit, and in CONV; else the greatest group does. It rests on the laws of the
 -- load.
-use mathlib.Core.Path.{_≡_, sym, ap, _∙_}
+use mathlib.Core.Path.{sym, ap, _∙_}
 use Prim.Native.Nat.{ℕ, _*_, _≤_}
 use native.Mathlib.Nat.{le-trans, mul-le-mul}
 use native.Mathlib.Omega.{arith}

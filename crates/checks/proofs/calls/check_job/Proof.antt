@@ -6,10 +6,11 @@ use borrow.Author.Needs.{needs}
 use borrow.Author.Tests.{eqb-true}
 use denote.Ref.{now}
 use lib.Dec.{leb}
+use lib.ListN.{length}
 use Rattle.base.specs.Rules.{Rule, firstBroken}
 use Rattle.base.specs.RulesLaws.{none-broken, inside-high, first-answers, goes-on, one-rule}
 use Rattle.layer.specs.Planned.{Planned}
-use Rattle.layer.specs.Shape.{scratchWords, tileTotal}
+use Rattle.layer.specs.Shape.{mapCount, kernelCount, scratchWords, tileTotal}
 use Rattle.checks.specs.Checks.{shapeRules, outputRules, lentRules, valueRules, jobRules, planCode, jobCode}
 use Rattle.checks.specs.ChecksLaws.{planned}
 use Rattle.checks.specs.Engine.{tileEngine}
@@ -94,16 +95,17 @@ check-values-requires : tie.Need-check-values-requires
 check-values-requires c κs =
     let s = call-2 c in
     let shape = plan (c .before .before) .shape in
-    let (values, (weights, (_, (_, (peak, _))))) = none-broken (lent-rules s) tt (sym (c .before .lent-code .ensures) ∙ c .if2 .left) in (
-      eqb-true _ _ values,
+    let l = s .args .layer in
+    let hold = none-broken (lent-rules s) tt (sym (c .before .lent-code .ensures) ∙ c .if2 .left) in (
+      eqb-true (length (now (s .args .map))) (mapCount l) search,
       record {
         inputs-most = shape .inputs-high;
         outputs-most = shape .outputs-high;
         side-most = shape .side-high;
         stride-least = shape .stride-low;
         stride-most = shape .stride-high;
-        peak-most = inside-high 1 32767 _ peak;
-        weights = eqb-true _ _ weights;
+        peak-most = inside-high 1 32767 (l .peak) search;
+        weights = eqb-true (length (now (s .args .kernel))) (kernelCount l) search;
       },
     )
 

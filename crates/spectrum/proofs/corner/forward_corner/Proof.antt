@@ -1,5 +1,5 @@
 -- `forward` twice: over the columns of the corner, and over the rows that `widen` makes of them. Corners has the law that joins them.
-use mathlib.Core.Path.{_≡_, sym, _∙_}
+use mathlib.Core.Path.{_≡_, _∙_}
 use mathlib.Core.List.{List}
 use Prim.Native.Nat.{ℕ, _+_, _-_, _*_, _^_, _≤_}
 use native.Mathlib.Omega.{arith}
@@ -9,7 +9,7 @@ use lib.ListN.{length}
 use Rattle.spectrum.specs.Corner.{cornerStart}
 use Rattle.spectrum.proofs.Widening.{corner-inside}
 use Rattle.spectrum.proofs.Tiles.{transforms}
-use Rattle.spectrum.proofs.Corners.{Wide, corner-le, corner-grid, corner-most, corner-filled, wide-length, wide-filled, wide-most, corner-forward}
+use Rattle.spectrum.proofs.Corners.{Wide, corner-grid, corner-most, corner-filled, wide-length, wide-filled, wide-most, corner-forward}
 use borrow.Author.Needs.{needs}
 use Rattle.spectrum.proofs.corner.forward_corner.Statement.{statement}
 use Rattle.spectrum.proofs.corner.forward_corner.Tie as tie

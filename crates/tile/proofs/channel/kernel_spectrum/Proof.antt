@@ -1,5 +1,5 @@
 -- The plane is loaded into the corner, which is lent, and transformed. KernelReady has what each step asks and leaves.
-use Prim.Native.Nat.{_*_, _-_}
+use Prim.Native.Nat.{_-_}
 use native.Mathlib.Omega.{arith}
 use borrow.Author.Needs.{needs}
 use denote.Ref.{now}

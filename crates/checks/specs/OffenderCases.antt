@@ -1,0 +1,108 @@
+-- 02, E11: what a call that passes the rules before 15 answers by the side of the first map value beyond the peak; 01's case 13, which is proved for
+-- every layer; and a table of maps with what is told of them, held by one theorem, which is proved by computation with the definitions.
+use mathlib.Core.Path.{_≡_, refl, sym, _∙_}
+use mathlib.Core.Bool.{Bool, true, _&&_}
+use mathlib.Core.List.{List, [], _∷_, _++_}
+use Prim.Native.Nat.{ℕ, _≤_, _<_}
+use native.Mathlib.Omega.{arith}
+use lib.Dec.{T, eqb}
+use lib.IntN.{ℤ, pos}
+use lib.ListN.{set, replicate}
+use Rattle.algebra.specs.Sum.{sum}
+use Rattle.algebra.specs.Greatest.{greatest}
+use Rattle.base.specs.Rules.{Rule, firstBroken, inside}
+use Rattle.base.specs.RulesLaws.{none-broken, second-answers, inside-high}
+use Rattle.layer.specs.Planned.{cropFits}
+use Rattle.layer.specs.declared.shape.Layer.{Layer}
+use Rattle.layer.specs.Shape.{kernelCount, outputCount, convSize, tconvSize, scratchWords}
+use Rattle.load.specs.Load.{sizeTotal, groupTotal, greatestGroup, load, loadsFit, withinPeak}
+use Rattle.load.specs.Blank.{blank, noneBlank}
+use Rattle.load.specs.Offender.{firstBeyond, offenderOf}
+use Rattle.load.specs.OffenderLaws.{First, first-fails, first-place, stored-place, side-below}
+use Rattle.checks.specs.Engine.{Engine, tileEngine}
+use Rattle.checks.specs.Checks.{shapeRules, outputRules, lentRules, valueRules, jobRules, offenderWith, planCode, runCode, jobCode}
+use Rattle.checks.specs.ChecksLaws.{run-code}
+use Rattle.checks.specs.Charts.{CONV, TCONV, channels, minus}
+
+-- ---- 15 and 25 by the side
+
+module _ (engine : Engine) (l : Layer) (map kernel : List ℤ) (output scratch : ℕ) where
+  -- the rules before 15
+  abbrev pub earlier : List Rule
+  earlier = shapeRules (engine .last-field) l ++ outputRules l ++ lentRules (engine .words l) l map kernel output scratch
+
+  module _ (passed : firstBroken earlier ≡ 0) (next : ℕ) where
+    pub job-above : offenderOf l map .side ≡ 1 → jobCode engine l next map kernel output scratch ≡ 15
+    unfolding jobCode
+    job-above above = second-answers earlier (valueRules l map kernel ++ jobRules (engine .total l) next) tt passed ∙ rw above
+
+    pub job-below : offenderOf l map .side ≡ 2 → jobCode engine l next map kernel output scratch ≡ 25
+    unfolding jobCode
+    job-below below = second-answers earlier (valueRules l map kernel ++ jobRules (engine .total l) next) tt passed ∙ rw below
+
+-- ---- case 13
+
+abbrev least : List ℤ
+least = minus 32768 ∷ []
+
+-- −32,768 is below −A under every A that passes 14
+pub case-13 : (engine : Engine) (l : Layer) (kernel : List ℤ) (output scratch : ℕ) → firstBroken (earlier engine l least kernel output scratch) ≡ 0
+    → runCode engine l least kernel output scratch ≡ 25
+unfolding offenderOf
+case-13 engine l kernel output scratch passed =
+    let hold = none-broken (earlier engine l least kernel output scratch) tt passed in
+    let top : l .peak ≤ 32767 = inside-high 1 32767 (l .peak) search in
+    let peak : l .peak < 32768 = omega arith in
+    let first : First (l .peak) least 0 = record { here = omega arith; beyond = peak; before = λ q h. absurd (omega arith) } in
+    let side : offenderOf l least .side ≡ 2
+    = rw (first-fails (l .peak) least 0 first, first-place (l .peak) least 0 first, stored-place l 0) (side-below (l .peak) (minus 32768) refl peak) in
+    sym (run-code engine l least kernel output scratch) ∙ job-below engine l least kernel output scratch passed 0 side
+
+-- ---- a table
+
+-- a layer, a map, the number that a run with a kernel of ones answers with, and the channel, row, column and side that come with it
+pub data Case : Type 0 where
+  told : Layer → (map : List ℤ) → (number channel row column side : ℕ) → Case
+
+abbrev answer : Layer → (map : List ℤ) → ℕ
+answer l map = runCode tileEngine l map (replicate (kernelCount l) (pos 1)) (outputCount l) (scratchWords l)
+
+pub holds : Case → Bool
+holds (told l map number channel row column side) =
+    let place = offenderWith (answer l map) l map in
+    eqb (answer l map) number && eqb (place .channel) channel && eqb (place .row) row && eqb (place .column) column && eqb (place .side) side
+
+pub allHold : List Case → Bool
+allHold [] = true
+allHold (case ∷ cases) = holds case && allHold cases
+
+-- two channels of 2 rows of 3 values, A 9
+abbrev two : Layer
+two = channels 2 1 (CONV 4 2 3 1 1 0 9)
+
+pub cases : List Case
+cases =
+    told two (replicate 12 (minus 9)) 0 0 0 0 0
+    -- each place of a channel, on either side
+    ∷ told two (set (replicate 12 (pos 9)) 0 (pos 10)) 15 0 0 0 1
+    ∷ told two (set (replicate 12 (pos 9)) 2 (minus 10)) 25 0 0 2 2
+    ∷ told two (set (replicate 12 (pos 9)) 3 (pos 10)) 15 0 1 0 1
+    ∷ told two (set (replicate 12 (pos 9)) 7 (minus 10)) 25 1 0 1 2
+    ∷ told two (set (replicate 12 (pos 9)) 11 (pos 32767)) 15 1 1 2 1
+    -- the first in stored order, whichever its side
+    ∷ told two (set (set (replicate 12 (pos 0)) 4 (minus 10)) 5 (pos 10)) 25 0 1 1 2
+    ∷ told two (set (set (replicate 12 (pos 0)) 6 (minus 10)) 5 (pos 10)) 15 0 1 2 1
+    -- the ends of 16 bits
+    ∷ told (CONV 5 1 1 1 1 0 32767) (minus 32768 ∷ []) 25 0 0 0 2
+    ∷ told (CONV 5 1 1 1 1 0 32767) (minus 32767 ∷ []) 0 0 0 0 0
+    ∷ told (TCONV 4 1 1 1 1 0 32766) (pos 32767 ∷ []) 15 0 0 0 1
+    -- a number before 15 comes with zeros
+    ∷ told (CONV 4 1 1 1 1 0 32768) (minus 32768 ∷ []) 14 0 0 0 0
+    ∷ told (CONV 6 1 1 1 1 0 1) (pos 2 ∷ []) 2 0 0 0 0
+    ∷ []
+
+-- every case of the table holds
+pub cases-hold : T (allHold cases)
+unfolding allHold cases holds convSize tconvSize sum planCode runCode inside cropFits withinPeak offenderOf firstBeyond offenderWith
+    noneBlank blank loadsFit load sizeTotal groupTotal greatestGroup greatest
+cases-hold = tt
