@@ -18,6 +18,7 @@ use Rattle.checks.specs.Callable.{Callable}
 use Rattle.checks.specs.Engine.{Engine, Lawful}
 use Rattle.checks.specs.Checks.{offenderWith}
 use Rattle.checks.specs.ChecksLaws.{job-callable}
+use Rattle.checks.specs.OffenderLaws.{accepted-place}
 use Rattle.engine.specs.declared.job.Job.{Job}
 use Rattle.engine.specs.declared.job.Progress.{Progress}
 use Rattle.engine.specs.Call.{startOf, countOf, accepted, refused, finished, cleared, callCode, Called}
@@ -45,6 +46,16 @@ module _ {engine : Engine} {job : Job} {budget : ℕ} {map kernel output : List 
       where
         by-code : (code : ℕ) → outcome code (accepted engine job (countOf engine job budget)) (refused job code (offenderWith code (job .layer) map)) .code ≡ code
         by-code zero = refl
+        by-code (suc code) = refl
+
+    -- the place and the side are those that stand with the code: zeros with any but 15 and 25, whether the call is accepted or refused
+    pub called-place : progress .offender ≡ offenderWith (progress .code) (job .layer) map
+    called-place = rw called-code (ap (λ (p : Progress). p .offender) (call .answers) ∙ by-code called)
+      where
+        by-code : (code : ℕ)
+            → outcome code (accepted engine job (countOf engine job budget)) (refused job code (offenderWith code (job .layer) map)) .offender
+            ≡ offenderWith code (job .layer) map
+        by-code zero = sym (accepted-place (job .layer) map refl)
         by-code (suc code) = refl
 
     -- no call changes the length of a buffer

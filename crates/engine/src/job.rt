@@ -49,8 +49,8 @@ impl Job {
         let layer = self.layer;
         let next = self.next;
         let checked = check_job(layer, next, map, kernel, output.len(), scratch.len());
-        let offender = checked.offender;
         if checked.code != 0 {
+            let offender = checked.offender;
             return Progress {
                 code: checked.code,
                 count: 0,
@@ -72,7 +72,7 @@ impl Job {
                 next: to,
             },
             done: to == total,
-            offender: offender,
+            offender: Offender::none(),
         }
     }
 }

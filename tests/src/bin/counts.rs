@@ -1,5 +1,5 @@
-//! Instructions of `levels`, `noise` and `join`, as valgrind counts them: those of a program that makes two calls less those of one
-//! that makes one, and so many for each value or pair of weights. Nothing is asserted of a count.
+//! Instructions of `levels`, `noise`, `join` and of a job call of no tile, as valgrind counts them: those of a program that makes two
+//! calls less those of one that makes one, and so many for each value or pair of weights. Nothing is asserted of a count.
 
 use wemsteky_tests::random::Random;
 use wemsteky_tests::{count, engine};
@@ -10,15 +10,16 @@ const VALUES: usize = 1_000_000;
 /// The channels of a joined filter, in each place.
 const CHANNELS: usize = 16;
 
-/// A function with a figure: the shift of levels, or the side of the first of two filters whose joined side is given.
+/// A function with a figure: the shift of levels, the sides of two filters, or the place of a map value beyond the peak.
 #[derive(Clone, Copy)]
 enum Counted {
     Levels { shift: usize },
     Noise,
     Join { first: usize, second: usize },
+    Job { beyond: Option<usize> },
 }
 
-const COUNTED: [Counted; 7] = [
+const COUNTED: [Counted; 10] = [
     Counted::Levels { shift: 0 },
     Counted::Levels { shift: 8 },
     Counted::Levels { shift: 31 },
@@ -26,6 +27,9 @@ const COUNTED: [Counted; 7] = [
     Counted::Join { first: 5, second: 5 },
     Counted::Join { first: 11, second: 1 },
     Counted::Join { first: 6, second: 6 },
+    Counted::Job { beyond: None },
+    Counted::Job { beyond: Some(0) },
+    Counted::Job { beyond: Some(VALUES - 1) },
 ];
 
 impl Counted {
@@ -34,13 +38,15 @@ impl Counted {
             Self::Levels { shift } => format!("levels, shift {shift}"),
             Self::Noise => "noise".to_string(),
             Self::Join { first, second } => format!("join, sides {first} and {second}"),
+            Self::Job { beyond: None } => "job of no tile, no map value beyond the peak".to_string(),
+            Self::Job { beyond: Some(place) } => format!("job of no tile, map value {place} beyond the peak"),
         }
     }
 
     /// Values, or pairs of weights that meet, each of which is multiplied twice.
     fn items(self) -> usize {
         match self {
-            Self::Levels { .. } | Self::Noise => VALUES,
+            Self::Levels { .. } | Self::Noise | Self::Job { .. } => VALUES,
             Self::Join { first, second } => CHANNELS * CHANNELS * CHANNELS * (first * first) * (second * second),
         }
     }
@@ -50,6 +56,7 @@ impl Counted {
             Self::Levels { shift } => levels(shift, calls),
             Self::Noise => noise(calls),
             Self::Join { first, second } => join(first, second, calls),
+            Self::Job { beyond } => job(beyond, calls),
         }
     }
 }
@@ -74,6 +81,18 @@ fn join(first: usize, second: usize, calls: usize) {
     let mut joined = weights(first + second - 1);
     (0..calls)
         .for_each(|_| assert_eq!(engine::join((&filter(first), &one), (&filter(second), &other), &mut joined), 0));
+}
+
+/// Four map channels of 500 by 500, one weight each.
+fn job(beyond: Option<usize>, calls: usize) {
+    let layer = [0, 4, 4, 1, 500, 500, 1, 1, 0, 100, 0, 0, 1, 1, 0, 0];
+    let mut map = vec![100; VALUES];
+    beyond.into_iter().for_each(|place| map[place] = 101);
+    let (mut output, mut scratch) = ([0; 1], [0; 3072]);
+    for _ in 0..calls {
+        let answer = engine::job(&layer, (0, 0), (&map, &[1; 4]), &mut output, &mut scratch);
+        assert_eq!(answer.number, if beyond.is_some() { 15 } else { 0 });
+    }
 }
 
 fn counted(number: usize) -> Option<f64> {

@@ -6,12 +6,10 @@ use lib.ListN.{length}
 use borrow.Author.Needs.{needs}
 use denote.Ref.{now}
 use Rattle.layer.specs.Shape.{scratchWords, tileTotal}
-use Rattle.load.specs.Offender.{noOffender}
 use Rattle.checks.specs.Callable.{Callable}
 use Rattle.checks.specs.Engine.{tileEngine}
 use Rattle.checks.specs.ChecksLaws.{job-callable}
 use Rattle.checks.specs.EngineLaws.{tile-lawful}
-use Rattle.checks.specs.OffenderLaws.{accepted-place}
 use Rattle.engine.specs.Call.{callCode}
 use Rattle.engine.proofs.Outcomes.{refused-call, accepted-call}
 use Rattle.engine.proofs.Scratch.{changed-cleared}
@@ -26,16 +24,13 @@ module _ (c : tie.After-check-job) where
 -- it is 0: what that says of the call
 module _ (c : tie.Else1) where
   abbrev code : tie.After-check-job
-  code = c .before .before .before
+  code = c .before .before
 
   abbrev call : tie.Start
   call = start code
 
   accepts : let g = call .args in callCode tileEngine (g .self) (now (g .map)) (now (g .kernel)) (length (now (g .output))) (length (now (g .scratch))) ≡ 0
   accepts = sym (code .check-job .ensures .0) ∙ c .if1 .left
-
-  no-place : code .check-job .result .offender ≡ noOffender
-  no-place = code .check-job .ensures .1 ∙ accepted-place (call .args .self .layer) (now (call .args .map)) (c .if1 .left)
 
   passed : let g = call .args in
       Callable tileEngine (g .self .layer) (now (g .map)) (now (g .kernel)) (length (now (g .output))) (length (now (g .scratch)))
@@ -68,9 +63,10 @@ check-job-requires c κs = search needs
 returns : tie.Need-returns
 returns c =
     let code : tie.After-check-job = search in
+    let broken : tie.Then1 = search in
     let g = start code .args in
     refused-call tileEngine (g .self) (g .budget) (now (g .map)) (now (g .kernel)) (now (g .output)) (now (g .scratch)) (code .check-job .result .code)
-    (code .check-job .ensures .0) (c .if1 .taken) (code .check-job .ensures .1)
+    (code .check-job .ensures .0) (broken .if1 .taken) (code .check-job .ensures .1)
 
 tile-total-requires : tie.Need-tile-total-requires
 tile-total-requires c κs = passed c .0 .plan
@@ -98,6 +94,9 @@ clear-requires c κs =
     let given = passed (accepted (count tiles)) .0 in
     (omega arith, omega (arith, c .scratch-words .ensures, tiles .finish-tiles .ensures .1 .same-length, given .scratch-low))
 
+none-requires : tie.Need-none-requires
+none-requires c κs = search needs
+
 same-length : tie.Need-same-length
 same-length c = search needs
 
@@ -106,17 +105,18 @@ same-length-2 c = search needs
 
 returns-2 : tie.Need-returns-2
 returns-2 c =
-    let cleared = c .before .before in
-    let tiles = cleared .before .before .before .before .before .before in
-    let n = tiles .before .before .before in
-    let else = n .before .before in
+    let none : tie.After-none = search in
+    let cleared : tie.After-clear = search in
+    let tiles : tie.After-finish-tiles = search in
+    let n : tie.After-lesser = search in
+    let else : tie.Else1 = search in
     let g = call else .args in
     let is = rw (n .before .tile-total .ensures) at (n .lesser .ensures) in
-    let none = rw (cleared .before .scratch-words .ensures) at (cleared .clear .ensures) in
-    rw (n .before .tile-total .ensures, no-place else)
+    let zeroed = rw (cleared .before .scratch-words .ensures) at (cleared .clear .ensures) in
+    rw (n .before .tile-total .ensures, none .none .ensures)
     (accepted-call tileEngine (g .self) (g .budget) (now (g .map)) (now (g .kernel)) (now (g .output)) (now (g .scratch)) (n .lesser .result)
     (accepts else) is (tiles .finish-tiles .ensures .0)
-    (changed-cleared (scratchWords (g .self .layer)) (passed else .0 .scratch-low) (tiles .finish-tiles .ensures .1) none))
+    (changed-cleared (scratchWords (g .self .layer)) (passed else .0 .scratch-low) (tiles .finish-tiles .ensures .1) zeroed))
 
 pub advance-spec : {M : Type 1} → statement M
 advance-spec =
@@ -131,6 +131,7 @@ advance-spec =
     finish-tiles-requires
     scratch-words-requires
     clear-requires
+    none-requires
     same-length
     same-length-2
     returns-2)
