@@ -1,5 +1,5 @@
-/* A transposed convolution planned, with a row and a column added too, run tile by tile, its outputs as levels, and a call that is refused; a
- * transform there and back; noise; two filters joined. */
+/* A transposed convolution planned, with a row and a column added too, run tile by tile, its outputs as levels, and a call that is refused with the
+ * map value that it is refused for; a transform there and back; noise; two filters joined. */
 #include <stdio.h>
 #include <string.h>
 
@@ -22,7 +22,7 @@ static int failed(const char *what, size_t code)
 }
 
 /* Runs the layer in budgets of two tiles and returns the code of the last call. */
-static size_t run_in_budgets(const size_t layer[16], const int16_t *kernel, size_t kernel_len, size_t figures[3])
+static size_t run_in_budgets(const size_t layer[16], const int16_t *kernel, size_t kernel_len, size_t figures[7])
 {
     size_t next = 0, code;
     do {
@@ -62,7 +62,7 @@ int main(void)
     const size_t enlarged[16] = {1, 4, 1, CHANNELS, SIDE, SIDE, 4, 2, 0, 100, 0, 0, FULL + 1, FULL + 1, 1, 1};
     const int16_t kernel[CHANNELS * 16] = {1, 2, 3, 4, 5, 6, 7, 8, 9, 10, 11, 12, 13, 14, 15, 16,
                                            -1, 0, 0, 0, 0, -1, 0, 0, 0, 0, -1, 0, 0, 0, 0, -1};
-    size_t figures[4], progress[3], code;
+    size_t figures[4], progress[7], code;
 
     code = wemsteky_plan(layer, figures);
     if (code != 0) return failed("plan", code);
@@ -83,8 +83,9 @@ int main(void)
     if (code != 0) return failed("levels", code);
     printf("levels %d, %d, %d\n", levels[0], levels[FULL * FULL - 1], levels[CHANNELS * FULL * FULL - 1]);
 
-    map[1] = 101; /* beyond the peak */
-    printf("refused %zu\n", run_in_budgets(layer, kernel, CHANNELS * 16, progress));
+    map[2 * SIDE + 1] = -101; /* beyond the peak */
+    code = run_in_budgets(layer, kernel, CHANNELS * 16, progress);
+    printf("refused %zu: channel %zu, row %zu, column %zu, side %zu\n", code, progress[3], progress[4], progress[5], progress[6]);
 
     uint64_t words[32] = {0, 1}, there[32];
     memcpy(there, words, sizeof words);

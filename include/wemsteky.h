@@ -52,24 +52,28 @@
  *   2 field is not 4 or 5                 12 output length is not M h w
  *   3 C or M outside 1 to 64              13 scratch is below 3 N N words
  *   4 H or W outside 1 to 512             14 peak outside 1 to 32,767
- *   5 K outside 1 to 11                   15 some map value above peak or below -peak
- *   6 S outside 1 to 4                    24 some output channel is blank: every weight that reaches it is 0
- *   7 P above K - 1                       16 some output channel's load above the limit
- *  23 below or beside above S - 1, or     17 the index of the next tile above the total
- *     not 0 in CONV                       18 not N words to transform
- *   8 the full output has no row or no    19 a word not below the field
- *     column                              20 the shift outside 0 to 31, the bound outside 1 to 32,767, or not as many levels as outputs
- *   9 the crop is empty or reaches        26 a layer to join not CONV with S 1 and P 0, its C, M or K outside the ranges, a kernel length, that of
- *     beyond the full output                 the joined one too, not as the figures say, or the first layer's M not the second's C
- *  10 map length is not C H W             27 the joined side above 11
+ *   5 K outside 1 to 11                   15 the first map value beyond the peak is above it
+ *   6 S outside 1 to 4                    25 the first map value beyond the peak is below its negative
+ *   7 P above K - 1                       24 some output channel is blank: every weight that reaches it is 0
+ *  23 below or beside above S - 1, or     16 some output channel's load above the limit
+ *     not 0 in CONV                       17 the index of the next tile above the total
+ *   8 the full output has no row or no    18 not N words to transform
+ *     column                              19 a word not below the field
+ *   9 the crop is empty or reaches        20 the shift outside 0 to 31, the bound outside 1 to 32,767, or not as many levels as outputs
+ *     beyond the full output              26 a layer to join not CONV with S 1 and P 0, its C, M or K outside the ranges, a kernel length, that of
+ *  10 map length is not C H W                the joined one too, not as the figures say, or the first layer's M not the second's C
+ *                                         27 the joined side above 11
  *                                         28 some joined weight not within 16 signed bits
+ *
+ * With 15 and 25, wemsteky_run and wemsteky_job tell which value it is: the first one beyond the peak in stored order, that is by channel, then row,
+ * then column, each counted from 0, and its side, 1 above the peak, 2 below its negative. -32,768 is below the negative of every peak.
  *
  * WHAT THE CALLER KEEPS, which nothing checks: each pointer points to as many elements as its length says, also where that is 0, so no pointer is
  * null; a buffer that a call writes (output, scratch, figures, words, levels, map of wemsteky_noise, joined) overlaps no other buffer of the call;
  * nobody else writes a buffer of a call while it runs. size_t has 64 bits.
  *
- * The functions allocate nothing, have no globals and hold no locks: any number of calls may run at once on buffers of their own. Runs used 2,672
- * bytes of stack when that was measured, a job call 2,400, the others less (tests/stack.c prints it).
+ * The functions allocate nothing, have no globals and hold no locks: any number of calls may run at once on buffers of their own. Runs used 2,752
+ * bytes of stack when that was measured, a job call 2,480, the others less (tests/stack.c prints it).
  */
 #ifndef WEMSTEKY_H
 #define WEMSTEKY_H
@@ -77,7 +81,7 @@
 #include <stddef.h>
 #include <stdint.h>
 
-#define WEMSTEKY_VERSION 0x000300 /* major, minor and patch, a byte each */
+#define WEMSTEKY_VERSION 0x000400 /* major, minor and patch, a byte each */
 
 /* The words of scratch, 3 N N, in field 4 and in field 5. Scratch may be longer. */
 #define WEMSTEKY_SCRATCH_4 3072
@@ -103,17 +107,18 @@ extern "C" {
 /* Checks 1 to 9 and 23. figures: E, F, the total of tiles, 3 N N words of scratch; zeros where the layer is refused. */
 WEMSTEKY_MUST_USE size_t wemsteky_plan(const size_t layer[16], size_t figures[4]);
 
-/* Checks 1 to 16, 23 and 24, then every tile: each output becomes its sum. figures: tiles finished, index of the next tile, 1 where done; zeros
- * where the call is refused. An accepted call leaves the first 3 N N words of scratch zero and later ones as they were; what they held is free. */
+/* Checks 1 to 16 and 23 to 25, then every tile: each output becomes its sum. figures: tiles finished, index of the next tile, 1 where done, zeros
+ * where the call is refused; then channel, row, column and side of the map value that 15 and 25 speak of, zeros with any other answer. An accepted
+ * call leaves the first 3 N N words of scratch zero and later ones as they were; what they held is free. */
 WEMSTEKY_MUST_USE size_t wemsteky_run(const size_t layer[16], const int16_t *map, size_t map_len, const int16_t *kernel, size_t kernel_len,
-                                      int32_t *output, size_t output_len, uint64_t *scratch, size_t scratch_len, size_t figures[3]);
+                                      int32_t *output, size_t output_len, uint64_t *scratch, size_t scratch_len, size_t figures[7]);
 
-/* Checks 1 to 17, 23 and 24, then the lesser of the budget and the tiles left, from tile `next` on; a budget of 0 is accepted. Outputs of the tiles
- * finished become their sums, all others stay. figures: tiles finished, index of the next tile (as given where the call is refused), 1 where no
- * tile is left. Scratch as after wemsteky_run. */
+/* Checks 1 to 17 and 23 to 25, then the lesser of the budget and the tiles left, from tile `next` on; a budget of 0 is accepted. Outputs of the
+ * tiles finished become their sums, all others stay. figures: tiles finished, index of the next tile (as given where the call is refused), 1 where
+ * no tile is left; the other four as after wemsteky_run, and so is scratch. */
 WEMSTEKY_MUST_USE size_t wemsteky_job(const size_t layer[16], size_t next, size_t budget, const int16_t *map, size_t map_len,
                                       const int16_t *kernel, size_t kernel_len, int32_t *output, size_t output_len, uint64_t *scratch,
-                                      size_t scratch_len, size_t figures[3]);
+                                      size_t scratch_len, size_t figures[7]);
 
 /* Checks 2, 18 and 19, then the transform of N residues at the root 2: entry k is the sum over n of words[n] times 2 to the power nk, modulo the
  * field. The inverse undoes it. */

@@ -8,6 +8,7 @@ pub mod FormerLoad
 pub mod ChecksLaws
 pub mod OffenderLaws
 pub mod EngineLaws
+pub mod BeyondLaws
 pub mod FormerLoadLaws
 pub mod Charts
 pub mod LoadCases

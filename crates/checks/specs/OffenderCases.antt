@@ -1,64 +1,22 @@
--- 02, E11: what a call that passes the rules before 15 answers by the side of the first map value beyond the peak; 01's case 13, which is proved for
--- every layer; and a table of maps with what is told of them, held by one theorem, which is proved by computation with the definitions.
-use mathlib.Core.Path.{_≡_, refl, sym, _∙_}
+-- 02, E11: maps with what is told of them, as one table of cases, held by one theorem. It is proved by computation with the definitions.
 use mathlib.Core.Bool.{Bool, true, _&&_}
-use mathlib.Core.List.{List, [], _∷_, _++_}
-use Prim.Native.Nat.{ℕ, _≤_, _<_}
-use native.Mathlib.Omega.{arith}
+use mathlib.Core.List.{List, [], _∷_}
+use Prim.Native.Nat.{ℕ}
 use lib.Dec.{T, eqb}
 use lib.IntN.{ℤ, pos}
 use lib.ListN.{set, replicate}
 use Rattle.algebra.specs.Sum.{sum}
 use Rattle.algebra.specs.Greatest.{greatest}
-use Rattle.base.specs.Rules.{Rule, firstBroken, inside}
-use Rattle.base.specs.RulesLaws.{none-broken, second-answers, inside-high}
+use Rattle.base.specs.Rules.{inside}
 use Rattle.layer.specs.Planned.{cropFits}
 use Rattle.layer.specs.declared.shape.Layer.{Layer}
 use Rattle.layer.specs.Shape.{kernelCount, outputCount, convSize, tconvSize, scratchWords}
 use Rattle.load.specs.Load.{sizeTotal, groupTotal, greatestGroup, load, loadsFit, withinPeak}
 use Rattle.load.specs.Blank.{blank, noneBlank}
 use Rattle.load.specs.Offender.{firstBeyond, offenderOf}
-use Rattle.load.specs.OffenderLaws.{First, first-fails, first-place, stored-place, side-below}
-use Rattle.checks.specs.Engine.{Engine, tileEngine}
-use Rattle.checks.specs.Checks.{shapeRules, outputRules, lentRules, valueRules, jobRules, offenderWith, planCode, runCode, jobCode}
-use Rattle.checks.specs.ChecksLaws.{run-code}
+use Rattle.checks.specs.Engine.{tileEngine}
+use Rattle.checks.specs.Checks.{offenderWith, planCode, runCode}
 use Rattle.checks.specs.Charts.{CONV, TCONV, channels, minus}
-
--- ---- 15 and 25 by the side
-
-module _ (engine : Engine) (l : Layer) (map kernel : List ℤ) (output scratch : ℕ) where
-  -- the rules before 15
-  abbrev pub earlier : List Rule
-  earlier = shapeRules (engine .last-field) l ++ outputRules l ++ lentRules (engine .words l) l map kernel output scratch
-
-  module _ (passed : firstBroken earlier ≡ 0) (next : ℕ) where
-    pub job-above : offenderOf l map .side ≡ 1 → jobCode engine l next map kernel output scratch ≡ 15
-    unfolding jobCode
-    job-above above = second-answers earlier (valueRules l map kernel ++ jobRules (engine .total l) next) tt passed ∙ rw above
-
-    pub job-below : offenderOf l map .side ≡ 2 → jobCode engine l next map kernel output scratch ≡ 25
-    unfolding jobCode
-    job-below below = second-answers earlier (valueRules l map kernel ++ jobRules (engine .total l) next) tt passed ∙ rw below
-
--- ---- case 13
-
-abbrev least : List ℤ
-least = minus 32768 ∷ []
-
--- −32,768 is below −A under every A that passes 14
-pub case-13 : (engine : Engine) (l : Layer) (kernel : List ℤ) (output scratch : ℕ) → firstBroken (earlier engine l least kernel output scratch) ≡ 0
-    → runCode engine l least kernel output scratch ≡ 25
-unfolding offenderOf
-case-13 engine l kernel output scratch passed =
-    let hold = none-broken (earlier engine l least kernel output scratch) tt passed in
-    let top : l .peak ≤ 32767 = inside-high 1 32767 (l .peak) search in
-    let peak : l .peak < 32768 = omega arith in
-    let first : First (l .peak) least 0 = record { here = omega arith; beyond = peak; before = λ q h. absurd (omega arith) } in
-    let side : offenderOf l least .side ≡ 2
-    = rw (first-fails (l .peak) least 0 first, first-place (l .peak) least 0 first, stored-place l 0) (side-below (l .peak) (minus 32768) refl peak) in
-    sym (run-code engine l least kernel output scratch) ∙ job-below engine l least kernel output scratch passed 0 side
-
--- ---- a table
 
 -- a layer, a map, the number that a run with a kernel of ones answers with, and the channel, row, column and side that come with it
 pub data Case : Type 0 where

@@ -1,6 +1,6 @@
 -- What the rules 15 and 25 say, and the place and the side that stand with an answer. It rests on the laws of the first value beyond the peak.
-use mathlib.Core.Path.{_≡_, refl, sym, ap, _∙_}
-use mathlib.Core.Bool.{Bool, true, false, cond, not, _&&_, true≢false}
+use mathlib.Core.Path.{_≡_, refl, sym}
+use mathlib.Core.Bool.{Bool, true, false, not, _&&_, true≢false}
 use mathlib.Core.List.{List, [], _∷_}
 use mathlib.Core.Logic.{⊎-elim}
 use Prim.Native.Nat.{ℕ}
@@ -43,16 +43,16 @@ abbrev pub placeless : List Rule → Bool
 placeless [] = true
 placeless (rule number holds ∷ rules) = not (isPlaced number) && placeless rules
 
-no-place : (l : Layer) (map : List ℤ) (rules : List Rule) → T (placeless rules) → offenderWith (firstBroken rules) l map ≡ noOffender
-unfolding offenderWith
-no-place l map [] other = refl
-no-place l map (rule number true ∷ rules) other = no-place l map rules (and-yes (not (isPlaced number)) (placeless rules) other .1)
-no-place l map (rule number false ∷ rules) other = by-test (isPlaced number) (and-yes (not (isPlaced number)) (placeless rules) other .0)
+pub not-placed : (rules : List Rule) → T (placeless rules) → isPlaced (firstBroken rules) ≡ false
+not-placed [] other = refl
+not-placed (rule number true ∷ rules) other = not-placed rules (and-yes (not (isPlaced number)) (placeless rules) other .1)
+not-placed (rule number false ∷ rules) other = is-false (isPlaced number) (and-yes (not (isPlaced number)) (placeless rules) other .0)
   where
-    by-test : (t : Bool) → T (not t) → cond t (offenderOf l map) noOffender ≡ noOffender
-    by-test true other = absurd other
-    by-test false other = refl
+    is-false : (t : Bool) → T (not t) → t ≡ false
+    is-false true other = absurd other
+    is-false false other = refl
 
 pub zeros-with : (l : Layer) (map : List ℤ) (rules : List Rule) → T (placeless rules) → {code : ℕ} {o : Offender} → code ≡ firstBroken rules
     → o ≡ noOffender → o ≡ offenderWith code l map
-zeros-with l map rules other e none = none ∙ sym (no-place l map rules other) ∙ ap (λ (code : ℕ). offenderWith code l map) (sym e)
+unfolding offenderWith
+zeros-with l map rules other e none = rw (e, not-placed rules other) none

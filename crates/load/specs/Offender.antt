@@ -1,7 +1,8 @@
 -- 02, E11: the first map value beyond the peak in stored order, which is channel, then row, then column: its place and its side.
+use mathlib.Core.Path.{_≡_}
 use mathlib.Core.Bool.{cond}
 use mathlib.Core.List.{List, [], _∷_}
-use Prim.Native.Nat.{ℕ, suc, _+_}
+use Prim.Native.Nat.{ℕ, suc, _+_, _*_, _≤_, _<_}
 use lib.Dec.{leb}
 use lib.IntN.{ℤ, pos, negsuc, natAbs}
 use Rattle.algebra.specs.Planes.{cell, stackedAt}
@@ -36,3 +37,17 @@ offenderAt l map channel row column = record {
 unfoldable pub offenderOf : Layer → (map : List ℤ) → Offender
 offenderOf l map =
     cond (withinPeak (l .peak) map) noOffender (stackedAt (l .height) (l .width) (offenderAt l map) (firstBeyond (l .peak) map))
+
+-- stored order: the flat place of a channel, row and column of the map
+abbrev pub stored : Layer → (channel row column : ℕ) → ℕ
+stored l channel row column = (channel * l .height + row) * l .width + column
+
+-- in words, for the law that says it: the place is one of the map's, the value there is beyond the peak on that side, and no value stored before it is
+pub record Offends (l : Layer) (map : List ℤ) (o : Offender) : Type 0 where
+  pub channel-in : o .channel < l .inputs
+  pub row-in : o .row < l .height
+  pub column-in : o .column < l .width
+  pub beyond : l .peak < natAbs (cell (l .height) (l .width) map (o .channel) (o .row) (o .column))
+  pub side-is : o .side ≡ sideOf (l .peak) (cell (l .height) (l .width) map (o .channel) (o .row) (o .column))
+  pub before : (channel row column : ℕ) → stored l channel row column < stored l (o .channel) (o .row) (o .column)
+      → natAbs (cell (l .height) (l .width) map channel row column) ≤ l .peak

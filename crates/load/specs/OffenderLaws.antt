@@ -1,9 +1,9 @@
--- What the definition of the first value beyond the peak says: its place is one of the map's, the value there is beyond the peak on that side, and no
--- value before it is; and there is no other such place. It rests on the laws of planes.
+-- What the definition of the first value beyond the peak says (`offends`), and that a place of which this holds is the one (`offender-at`). It rests on
+-- the laws of planes.
 use mathlib.Core.Path.{_≡_, refl}
 use mathlib.Core.Bool.{Bool, true, false, cond, true≢false}
 use mathlib.Core.List.{List, [], _∷_}
-use mathlib.Core.Logic.{_⊎_, inl, inr}
+use mathlib.Core.Logic.{_⊎_, inl, inr, ⊎-elim}
 use Prim.Native.Nat.{ℕ, zero, suc, _+_, _*_, _/_, _%_, _≤_, _<_}
 use native.Mathlib.Nat.{mod-lt, mul-le-mul, div-lt-iff-lt-mul, div-add-mod'}
 use native.Mathlib.Numerals.{add-one}
@@ -13,34 +13,15 @@ use lib.Dec.{leb}
 use lib.IntN.{ℤ, pos, negsuc, natAbs}
 use lib.ListN.{length, getD}
 use lib.Signed.{ltZ}
-use Rattle.algebra.specs.Planes.{cell}
 use Rattle.algebra.specs.PlanesLaws.{stacked-at}
 use Rattle.layer.specs.declared.shape.Layer.{Layer}
 use Rattle.layer.specs.Shape.{mapCount}
-use Rattle.load.specs.declared.offender.Offender.{Offender}
 use Rattle.load.specs.Load.{withinPeak}
-use Rattle.load.specs.Offender.{sideOf, firstBeyond, noOffender, offenderAt, offenderOf}
+use Rattle.load.specs.Offender.{sideOf, firstBeyond, noOffender, offenderAt, offenderOf, stored, Offends}
 
 -- ---- the side of a value
 
 module _ (peak : ℕ) where
-  -- it is 0 exactly where the size is within the peak
-  pub side-none : (v : ℤ) → natAbs v ≤ peak → sideOf peak v ≡ 0
-  side-none (pos n) h = rw (le-leb n peak h)
-  side-none (negsuc n) h = rw (le-leb (suc n) peak h)
-
-  pub side-within : (v : ℤ) → sideOf peak v ≡ 0 → natAbs v ≤ peak
-  side-within (pos n) e = by-test (leb n peak) refl
-    where
-      by-test : (t : Bool) → leb n peak ≡ t → n ≤ peak
-      by-test true l = leb-true n peak l
-      by-test false l = absurd (omega (arith, rw l at e))
-  side-within (negsuc n) e = by-test (leb (suc n) peak) refl
-    where
-      by-test : (t : Bool) → leb (suc n) peak ≡ t → suc n ≤ peak
-      by-test true l = leb-true (suc n) peak l
-      by-test false l = absurd (omega (arith, rw l at e))
-
   -- a value beyond the peak has the side of its sign
   pub side-below : (v : ℤ) → ltZ v (pos 0) ≡ true → peak < natAbs v → sideOf peak v ≡ 2
   side-below (pos n) e h = absurd (omega (arith, ltb-true n 0 e))
@@ -54,6 +35,18 @@ module _ (peak : ℕ) where
   side-beyond (pos n) h = inl (rw (lt-leb n peak h))
   side-beyond (negsuc n) h = inr (rw (lt-leb (suc n) peak h))
 
+  -- it is 0 exactly where the size is within the peak
+  pub side-none : (v : ℤ) → natAbs v ≤ peak → sideOf peak v ≡ 0
+  side-none (pos n) h = rw (le-leb n peak h)
+  side-none (negsuc n) h = rw (le-leb (suc n) peak h)
+
+  pub side-within : (v : ℤ) → sideOf peak v ≡ 0 → natAbs v ≤ peak
+  side-within v e = by-test (leb (natAbs v) peak) refl
+    where
+      by-test : (t : Bool) → leb (natAbs v) peak ≡ t → natAbs v ≤ peak
+      by-test true l = leb-true (natAbs v) peak l
+      by-test false l = ⊎-elim (λ s. absurd (omega (arith, e, s))) (λ s. absurd (omega (arith, e, s))) (side-beyond v (leb-false (natAbs v) peak l))
+
 -- ---- the first value of a list that is beyond the peak
 
 -- place p of the list holds one, and no place before it does
@@ -63,7 +56,7 @@ pub record First (peak : ℕ) (values : List ℤ) (p : ℕ) : Type 0 where
   pub before : (q : ℕ) → q < p → natAbs (getD values q (pos 0)) ≤ peak
 
 module _ (peak : ℕ) where
-  -- a value that is within the peak moves the first one on by a place, one that is not is the first
+  -- behind a value that is within the peak the first one stands a place further on
   passed : (value : ℤ) (values : List ℤ) (p : ℕ) → natAbs value ≤ peak → First peak values p → First peak (value ∷ values) (suc p)
   passed value values p within first = record { here = omega (arith, first .here); beyond = first .beyond; before = before }
     where
@@ -89,19 +82,14 @@ module _ (peak : ℕ) where
       by-test false l later = record { here = omega arith; beyond = leb-false (natAbs value) peak l; before = λ q h. absurd (omega arith) }
 
   -- there is no other
-  pub first-place : (values : List ℤ) (p : ℕ) → First peak values p → firstBeyond peak values ≡ p
-  unfolding firstBeyond
-  first-place [] p first = absurd (omega (arith, first .here))
-  first-place (value ∷ values) zero first = rw (lt-leb (natAbs value) peak (first .beyond))
-  first-place (value ∷ values) (suc p) first =
-      rw (le-leb (natAbs value) peak (first .before 0 (omega arith)), first-place values p (left value values p first), add-one)
-
-  pub first-fails : (values : List ℤ) (p : ℕ) → First peak values p → withinPeak peak values ≡ false
-  unfolding withinPeak
-  first-fails [] p first = absurd (omega (arith, first .here))
-  first-fails (value ∷ values) zero first = rw (lt-leb (natAbs value) peak (first .beyond))
-  first-fails (value ∷ values) (suc p) first =
-      rw (le-leb (natAbs value) peak (first .before 0 (omega arith))) (first-fails values p (left value values p first))
+  pub first-is : (values : List ℤ) (p : ℕ) → First peak values p → (withinPeak peak values ≡ false) × (firstBeyond peak values ≡ p)
+  unfolding withinPeak firstBeyond
+  first-is [] p first = absurd (omega (arith, first .here))
+  first-is (value ∷ values) zero first = let e = lt-leb (natAbs value) peak (first .beyond) in (rw e, rw e)
+  first-is (value ∷ values) (suc p) first =
+      let (fails, place) = first-is values p (left value values p first) in
+      let e = le-leb (natAbs value) peak (first .before 0 (omega arith)) in
+      (rw e fails, rw (e, place, add-one))
 
   -- a list has none where no value is beyond
   pub none-beyond : (values : List ℤ) → ((q : ℕ) → q < length values → natAbs (getD values q (pos 0)) ≤ peak) → withinPeak peak values ≡ true
@@ -112,26 +100,12 @@ module _ (peak : ℕ) where
 
 -- ---- the first value of a map that is beyond the peak
 
--- stored order: the flat place of a channel, row and column
-abbrev pub stored : Layer → (channel row column : ℕ) → ℕ
-stored l channel row column = (channel * l .height + row) * l .width + column
-
--- every flat place has them
+-- every flat place is that of a channel, row and column
 pub stored-place : (l : Layer) (p : ℕ)
     → stored l (p / (l .height * l .width)) (p % (l .height * l .width) / l .width) (p % (l .height * l .width) % l .width) ≡ p
 stored-place l p = omega (arith, div-add-mod' p (l .height * l .width), div-add-mod' (p % (l .height * l .width)) (l .width))
 
 module _ (l : Layer) (map : List ℤ) where
-  -- the offender's place is one of the map's, the value there is beyond the peak on the offender's side, and none that is stored before it is beyond
-  pub record Offends (o : Offender) : Type 0 where
-    pub channel-in : o .channel < l .inputs
-    pub row-in : o .row < l .height
-    pub column-in : o .column < l .width
-    pub beyond : l .peak < natAbs (cell (l .height) (l .width) map (o .channel) (o .row) (o .column))
-    pub side-is : o .side ≡ sideOf (l .peak) (cell (l .height) (l .width) map (o .channel) (o .row) (o .column))
-    pub before : (channel row column : ℕ) → stored l channel row column < stored l (o .channel) (o .row) (o .column)
-        → natAbs (cell (l .height) (l .width) map channel row column) ≤ l .peak
-
   -- zeros where no value is beyond the peak
   pub offender-none : withinPeak (l .peak) map ≡ true → offenderOf l map ≡ noOffender
   unfolding offenderOf
@@ -142,10 +116,10 @@ module _ (l : Layer) (map : List ℤ) where
       → offenderOf l map ≡ offenderAt l map channel row column
   unfolding offenderOf
   offender-at channel row column below beside first =
-      rw (first-fails (l .peak) map _ first, first-place (l .peak) map _ first)
+      rw (first-is (l .peak) map _ first .0, first-is (l .peak) map _ first .1)
       (stacked-at (l .height) (l .width) (offenderAt l map) channel row column below beside)
 
-  pub offends : length map ≡ mapCount l → 0 < l .height → 0 < l .width → withinPeak (l .peak) map ≡ false → Offends (offenderOf l map)
+  pub offends : length map ≡ mapCount l → 0 < l .height → 0 < l .width → withinPeak (l .peak) map ≡ false → Offends l map (offenderOf l map)
   unfolding offenderOf
   offends e high wide beyond =
       let first = first-beyond (l .peak) map beyond in

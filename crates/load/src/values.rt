@@ -7,7 +7,7 @@ ghost use lib.ListN.{length, getD};
 ghost use Rattle.load.specs.Load.{withinPeak};
 
 // The size of a value: its distance from 0. That of −32,768 is 32,768.
-pub fn size(v: i16) -> u64
+pub(crate) fn size(v: i16) -> u64
     ensures { λ r. ⌜ r ≡ natAbs v ⌝ }
 {
     number::size(v as i32) as u64
@@ -24,7 +24,7 @@ pub(crate) fn size_at(values: &[i16], i: usize) -> u64
 
 // Whether no value of the map is beyond the peak. One pass takes the least and the greatest of 0 and all values, with no exit
 // before the end and no wider number, so that it is compiled to many values at a time; then the sizes of the two decide.
-pub fn within_peak(map: &[i16], peak: usize) -> bool
+pub(crate) fn within_peak(map: &[i16], peak: usize) -> bool
     ensures { λ r. ⌜ r ≡ withinPeak peak (now (map .entry)) ⌝ }
 {
     let mut low: i16 = 0;

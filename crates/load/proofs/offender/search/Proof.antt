@@ -10,24 +10,24 @@ use mir.Facts.{toZ-ofZ}
 use mir.Syntax.{w16}
 use mir.Val.{toZ, ofZ}
 use Rattle.load.specs.Offender.{sideOf}
-use Rattle.load.proofs.Searches.{Passed, pass-none, pass-value, pass-row, pass-channel, pass-all, pass-found, place-in}
+use Rattle.load.proofs.Searches.{Searched, none-searched, value-searched, row-searched, channel-searched, all-searched, value-found, place-in}
 use Rattle.load.proofs.offender.search.Statement.{statement}
 use Rattle.load.proofs.offender.search.Tie as tie
 
 abbrev Inv-loop2 : tie.InvT-loop2
-Inv-loop2 layer map found₀ i₀ channel row column₀ found i column = (column ≤ layer .width) × Passed layer map found channel row column i
+Inv-loop2 layer map found₀ i₀ channel row column₀ found i column = (column ≤ layer .width) × Searched layer map found channel row column i
 
 abbrev μ-loop2 : tie.MeasureT-loop2
 μ-loop2 layer map found₀ i₀ channel row column₀ found i column = layer .width - column
 
 abbrev Inv-loop : tie.InvT-loop
-Inv-loop layer map found₀ i₀ channel row₀ found i row = (row ≤ layer .height) × Passed layer map found channel row 0 i
+Inv-loop layer map found₀ i₀ channel row₀ found i row = (row ≤ layer .height) × Searched layer map found channel row 0 i
 
 abbrev μ-loop : tie.MeasureT-loop
 μ-loop layer map found₀ i₀ channel row₀ found i row = layer .height - row
 
 abbrev Inv-channels : tie.InvT-channels
-Inv-channels layer map found₀ i₀ channel₀ found i channel = (channel ≤ layer .inputs) × Passed layer map found channel 0 0 i
+Inv-channels layer map found₀ i₀ channel₀ found i channel = (channel ≤ layer .inputs) × Searched layer map found channel 0 0 i
 
 abbrev μ-channels : tie.MeasureT-channels
 μ-channels layer map found₀ i₀ channel₀ found i channel = layer .inputs - channel
@@ -67,7 +67,7 @@ none-requires : tie.Need-none-requires Inv-loop2 μ-loop2 Inv-loop μ-loop Inv-c
 none-requires c κs = search needs
 
 channels-holds : tie.Need-channels-holds Inv-loop2 μ-loop2 Inv-loop μ-loop Inv-channels μ-channels
-channels-holds c = (omega arith, pass-none (c .none .ensures))
+channels-holds c = (omega arith, none-searched (c .none .ensures))
 
 loop-holds : tie.Need-loop-holds Inv-loop2 μ-loop2 Inv-loop μ-loop Inv-channels μ-channels
 loop-holds c = (omega arith, c .before .before .channels .inv .1)
@@ -94,7 +94,7 @@ loop2-less : tie.Need-loop2-less Inv-loop2 μ-loop2 Inv-loop μ-loop Inv-channel
 loop2-less c = search needs
 
 loop2-again : tie.Need-loop2-again Inv-loop2 μ-loop2 Inv-loop μ-loop Inv-channels μ-channels
-loop2-again c = (omega arith, pass-value (columns (turn (c .before)) .loop2 .inv .1) (sym (side-is (c .before)) ∙ c .if4 .left))
+loop2-again c = (omega arith, value-searched (columns (turn (c .before)) .loop2 .inv .1) (sym (side-is (c .before)) ∙ c .if4 .left))
 
 add-row : tie.Need-add-row Inv-loop2 μ-loop2 Inv-loop μ-loop Inv-channels μ-channels
 add-row c = search needs
@@ -103,7 +103,7 @@ loop-less : tie.Need-loop-less Inv-loop2 μ-loop2 Inv-loop μ-loop Inv-channels 
 loop-less c = search needs
 
 loop-again : tie.Need-loop-again Inv-loop2 μ-loop2 Inv-loop μ-loop Inv-channels μ-channels
-loop-again c = let at = c .before .before .loop2 in (omega arith, pass-row (omega (arith, at .inv .0)) (at .inv .1))
+loop-again c = let at = c .before .before .loop2 in (omega arith, row-searched (omega (arith, at .inv .0)) (at .inv .1))
 
 add-channel : tie.Need-add-channel Inv-loop2 μ-loop2 Inv-loop μ-loop Inv-channels μ-channels
 add-channel c = search needs
@@ -112,19 +112,19 @@ channels-less : tie.Need-channels-less Inv-loop2 μ-loop2 Inv-loop μ-loop Inv-c
 channels-less c = search needs
 
 channels-again : tie.Need-channels-again Inv-loop2 μ-loop2 Inv-loop μ-loop Inv-channels μ-channels
-channels-again c = let at = c .before .before .loop in (omega arith, pass-channel (omega (arith, at .inv .0)) (at .inv .1))
+channels-again c = let at = c .before .before .loop in (omega arith, channel-searched (omega (arith, at .inv .0)) (at .inv .1))
 
 -- all channels are passed
 returns : tie.Need-returns Inv-loop2 μ-loop2 Inv-loop μ-loop Inv-channels μ-channels
 returns c =
     let at = c .before .before in
-    pass-all (omega (arith, at .channels .inv .0)) (at .before .before .pre) (at .channels .inv .1)
+    all-searched (omega (arith, at .channels .inv .0)) (at .before .before .pre) (at .channels .inv .1)
 
 -- a value is found
 returns-2 : tie.Need-returns-2 Inv-loop2 μ-loop2 Inv-loop μ-loop Inv-channels μ-channels
 returns-2 c =
     let t = turn (c .before) in
-    pass-found (columns t .before .if2 .taken) (t .if3 .taken) (here t) (columns t .loop2 .inv .1) (side-is (c .before)) (c .if4 .taken)
+    value-found (columns t .before .if2 .taken) (t .if3 .taken) (here t) (columns t .loop2 .inv .1) (side-is (c .before)) (c .if4 .taken)
 
 pub search-spec : {M : Type 1} → statement M
 search-spec =
