@@ -1,6 +1,6 @@
--- 02, E11: what the answers 15 and 25 of a call of any engine say: a call answers with them exactly where it passes the rules before them and some map
--- value is beyond the peak, and by the side of the first such value; 01's case 13 is one instance. It rests on the laws of lists of rules and on those of
--- the first value beyond the peak.
+-- 02, E11: what the answers 15 and 25 of a call of any engine say: a call answers with them exactly where it passes the rules before them and some
+-- map value is beyond the peak, and by the side of the first such value; 01's case 13 is one instance. It rests on the laws of lists of rules and on
+-- those of the first value beyond the peak.
 use mathlib.Core.Path.{_≡_, refl, sym, ap, _∙_}
 use mathlib.Core.Bool.{Bool, true, false, true≢false}
 use mathlib.Core.List.{List, [], _∷_, _++_}

@@ -42,7 +42,8 @@ offenderOf l map =
 abbrev pub stored : Layer → (channel row column : ℕ) → ℕ
 stored l channel row column = (channel * l .height + row) * l .width + column
 
--- in words, for the law that says it: the place is one of the map's, the value there is beyond the peak on that side, and no value stored before it is
+-- what is to hold of it, in the request's words: the place is one of the map's, the value there is beyond the peak on that side, and no value stored
+-- before it is
 pub record Offends (l : Layer) (map : List ℤ) (o : Offender) : Type 0 where
   pub channel-in : o .channel < l .inputs
   pub row-in : o .row < l .height

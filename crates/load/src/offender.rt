@@ -1,5 +1,5 @@
-// The first map value beyond the peak in stored order, which is channel, then row, then column: its place and its side. The check of the whole map comes
-// first, many values at a time; values are looked at one by one only where it has found that some value is beyond.
+// The first map value beyond the peak in stored order, which is channel, then row, then column: its place and its side. The check of the whole map
+// comes first, many values at a time; values are looked at one by one only where it has found that some value is beyond.
 use crate::values::size;
 use crate::values::within_peak;
 use layer::shape::Layer;
@@ -17,7 +17,7 @@ pub struct Offender {
 }
 
 impl Offender {
-    // No value is beyond the peak.
+    // What is told where no value is beyond the peak.
     pub fn none() -> Offender
         ensures { λ r. ⌜ r ≡ noOffender ⌝ }
     {
