@@ -1,4 +1,5 @@
--- 01, "Returned by number", and 02, E7, E10 and E11: the rules 1 to 17 and 23 to 25, one definition each. A rule holds where its number is not returned.
+-- 01, "Returned by number", and 02, E7, E10 and E11: the rules 1 to 17 and 23 to 25, one definition each. A rule holds where its number is not
+-- returned.
 -- The lists of the rules that a plan, a run and a job are checked by are in `Checks`.
 use mathlib.Core.Bool.{_&&_, not}
 use mathlib.Core.List.{List}

@@ -58,7 +58,8 @@ fn check_map(layer: Layer, map: &[i16]) -> Checked
     }
 }
 
-// The rules 15, 25, 24 and 16. They read all values, so they come after every rule that reads none. 24 and 16 are answered together, by the same sums.
+// The rules 15, 25, 24 and 16. They read all values, so they come after every rule that reads none. 24 and 16 are answered together, by the same
+// sums.
 fn check_values(layer: Layer, map: &[i16], kernel: &[i16]) -> Checked
     requires { ⌜ length (now map) ≡ mapCount layer ⌝ }
     requires { ⌜ Weighted layer (now kernel) ⌝ }

@@ -1,4 +1,5 @@
--- 01, "A job", and 02, E11: what one call comes to, in any engine, for every job, budget, length and value. A refused call leaves everything as it was lent.
+-- 01, "A job", and 02, E11: what one call comes to, in any engine, for every job, budget, length and value. A refused call leaves everything as it
+-- was lent.
 use mathlib.Core.Path.{_≡_}
 use mathlib.Core.Bool.{false, _&&_, cond}
 use mathlib.Core.List.{List}

@@ -1,5 +1,5 @@
--- What the definition of the first value beyond the peak says (`offends`), and that a place of which this holds is the one (`offender-at`). It rests on
--- the laws of planes.
+-- What the definition of the first value beyond the peak says (`offends`), and that the place which holds it is the one told (`offender-at`). It rests
+-- on the laws of planes.
 use mathlib.Core.Path.{_≡_, refl}
 use mathlib.Core.Bool.{Bool, true, false, cond, true≢false}
 use mathlib.Core.List.{List, [], _∷_}
