@@ -32,10 +32,11 @@ fn report(progress: Progress, figures: &mut [usize; 7]) -> usize
     ensures { λ r. ⌜ r ≡ progress .code ⌝ }
     ensures { λ _. ⌜ now (figures .exit) ≡ progressFigures progress ⌝ }
 {
+    let done = progress.done as usize;
     *figures = [
         progress.count,
         progress.job.next,
-        progress.done as usize,
+        done,
         progress.offender.channel,
         progress.offender.row,
         progress.offender.column,

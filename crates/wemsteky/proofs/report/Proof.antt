@@ -13,8 +13,8 @@ marked : (done : Bool) → _≡_ {A = ℕ} (boolByte done) (cond done 1 0)
 marked true = refl
 marked false = refl
 
-cast-t3 : tie.Need-cast-t3
-cast-t3 c = search needs
+cast-done : tie.Need-cast-done
+cast-done c = search needs
 
 returns : tie.Need-returns
 returns c =
@@ -22,4 +22,4 @@ returns c =
     (refl, ap (λ (mark : ℕ). p .count ∷ p .job .next ∷ mark ∷ offenderFigures (p .offender)) (marked (p .done)))
 
 pub report-spec : {M : Type 1} → statement M
-report-spec = tie.close (tie.spec cast-t3 returns)
+report-spec = tie.close (tie.spec cast-done returns)
