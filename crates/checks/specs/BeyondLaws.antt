@@ -2,11 +2,12 @@
 -- map value is beyond the peak, and by the side of the first such value; 01's case 13 is one instance. It rests on the laws of lists of rules and on
 -- those of the first value beyond the peak.
 use mathlib.Core.Path.{_≡_, refl, sym, ap, _∙_}
-use mathlib.Core.Bool.{Bool, true, false, true≢false}
+use mathlib.Core.Bool.{Bool, true, false, cond, true≢false}
 use mathlib.Core.List.{List, [], _∷_, _++_}
 use mathlib.Core.Logic.{⊎-elim}
 use Prim.Native.Nat.{ℕ, zero, suc, _≤_, _<_}
 use native.Mathlib.Omega.{arith}
+use lib.Dec.{eqb}
 use lib.IntN.{ℤ, negsuc}
 use lib.ListN.{length}
 use borrow.Author.Tests.{eqb-true}
@@ -16,11 +17,15 @@ use Rattle.layer.specs.declared.shape.Layer.{Layer}
 use Rattle.layer.specs.Shape.{mapCount}
 use Rattle.load.specs.Load.{withinPeak}
 use Rattle.load.specs.Offender.{offenderOf, Offends}
-use Rattle.load.specs.OffenderLaws.{First, first-is, stored-place, side-below, offender-none, offender-side, offends}
+use Rattle.load.specs.OffenderLaws.{First, first-is, stored-place, side-sign, offender-none, offender-side, offends}
 use Rattle.checks.specs.Engine.{Engine, Lawful}
 use Rattle.checks.specs.Checks.{shapeRules, outputRules, lentRules, mapValueRules, weightRules, jobRules, isPlaced, planCode, runCode, jobCode}
 use Rattle.checks.specs.ChecksLaws.{planned, run-code}
 use Rattle.checks.specs.OffenderLaws.{not-placed}
+
+-- the number that a side is answered with: 15 above A, 25 below −A
+abbrev pub sideNumber : (side : ℕ) → ℕ
+sideNumber side = cond (eqb side 1) 15 25
 
 module _ (engine : Engine) (l : Layer) (map kernel : List ℤ) (output scratch : ℕ) where
   -- the rules before 15
@@ -42,11 +47,8 @@ module _ (engine : Engine) (l : Layer) (map kernel : List ℤ) (output scratch :
       unfolding jobCode
       from-map = second-answers earlier (mapValueRules l map ++ later) tt passed
 
-      pub job-above : offenderOf l map .side ≡ 1 → code ≡ 15
-      job-above above = from-map ∙ rw above
-
-      pub job-below : offenderOf l map .side ≡ 2 → code ≡ 25
-      job-below below = from-map ∙ rw below
+      pub job-beyond : withinPeak (l .peak) map ≡ false → code ≡ sideNumber (offenderOf l map .side)
+      job-beyond beyond = from-map ∙ ⊎-elim (λ s. rw s) (λ s. rw s) (offender-side l map beyond)
 
     -- ---- from the answer
 
@@ -81,16 +83,9 @@ module _ (engine : Engine) (l : Layer) (map kernel : List ℤ) (output scratch :
         let plan = planned lawful l (both-accept (shapeRules (engine .last-field) l ++ outputRules l) lent tt passed .0) in
         offends l map (eqb-true (length map) (mapCount l) search) (plan .shape .height-low) (plan .shape .width-low) (placed-beyond placed)
 
-    -- and its side is the number's
-    pub side-of-15 : code ≡ 15 → offenderOf l map .side ≡ 1
-    side-of-15 e =
-        let placed : isPlaced code ≡ true = ap isPlaced e in
-        ⊎-elim (λ s. s) (λ s. absurd (omega (arith, e, job-below (placed-passes placed) s))) (offender-side l map (placed-beyond placed))
-
-    pub side-of-25 : code ≡ 25 → offenderOf l map .side ≡ 2
-    side-of-25 e =
-        let placed : isPlaced code ≡ true = ap isPlaced e in
-        ⊎-elim (λ s. absurd (omega (arith, e, job-above (placed-passes placed) s))) (λ s. s) (offender-side l map (placed-beyond placed))
+    -- and the number is its side's
+    pub placed-number : isPlaced code ≡ true → code ≡ sideNumber (offenderOf l map .side)
+    placed-number placed = job-beyond (placed-passes placed) (placed-beyond placed)
 
 -- ---- case 13
 
@@ -107,5 +102,5 @@ case-13 engine l kernel output scratch passed =
     let peak : l .peak < 32768 = omega arith in
     let first : First (l .peak) least 0 = record { here = omega arith; beyond = peak; before = λ q h. absurd (omega arith) } in
     let (fails, place) = first-is (l .peak) least 0 first in
-    let side : offenderOf l least .side ≡ 2 = rw (fails, place, stored-place l 0) (side-below (l .peak) (negsuc 32767) refl peak) in
-    sym (run-code engine l least kernel output scratch) ∙ job-below engine l least kernel output scratch 0 passed side
+    let side : offenderOf l least .side ≡ 2 = rw (fails, place, stored-place l 0) (side-sign (l .peak) (negsuc 32767) peak) in
+    sym (run-code engine l least kernel output scratch) ∙ job-beyond engine l least kernel output scratch 0 passed fails ∙ rw side

@@ -7,6 +7,7 @@ use lib.Dec.{T, eqb}
 use lib.IntN.{ℤ, pos, negℤ, natAbs, _-ℤ_}
 use lib.ListN.{length, getD, set, replicate}
 use Rattle.algebra.specs.Planes.{cell}
+use Rattle.algebra.specs.Every.{everyOf}
 use Rattle.algebra.specs.Sum.{sum, sumZ}
 use Rattle.algebra.specs.Greatest.{greatest}
 use Rattle.algebra.specs.Places.{table}
@@ -66,10 +67,6 @@ holds (run l map kernel number) = eqb (code l map kernel) number
 holds (tiles l total) = eqb (tileTotal l) total
 holds (entry field words place value) =
     eqb (length words) (transformLength field) && eqb (transformIn field (λ n. getD words n 0) place) value
-
-pub allHold : List Claim → Bool
-allHold [] = true
-allHold (claim ∷ claims) = holds claim && allHold claims
 
 -- ---- layers of one channel to one, not cropped
 
@@ -237,14 +234,14 @@ layers =
     ∷ []
 
 -- every claim of the table of starred cases holds
-pub charts-hold : T (allHold charts)
-unfolding allHold charts holds table convSize tconvSize fullAt conv tconv directAt productSum sum sumZ
+pub charts-hold : T (everyOf holds charts)
+unfolding charts holds table convSize tconvSize fullAt conv tconv directAt productSum sum sumZ
     planCode runCode inside cropFits withinPeak offenderOf firstBeyond noneBlank blank loadsFit load sizeTotal groupTotal greatestGroup greatest tileTotal ceilingDiv
     transformAt powerSum
 charts-hold = tt
 
 -- and every claim of our own
-layers-hold : T (allHold layers)
-unfolding allHold layers holds table convSize tconvSize fullAt conv tconv directAt sum sumZ
+layers-hold : T (everyOf holds layers)
+unfolding layers holds table convSize tconvSize fullAt conv tconv directAt sum sumZ
     planCode runCode inside cropFits withinPeak offenderOf firstBeyond noneBlank blank loadsFit load sizeTotal groupTotal greatestGroup greatest tileTotal ceilingDiv
 layers-hold = tt

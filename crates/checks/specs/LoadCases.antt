@@ -1,11 +1,12 @@
 -- 02, E2: kernels judged by the load and by the former one, as one table of cases, held by one theorem. It is proved by computation with the
 -- definitions.
-use mathlib.Core.Bool.{Bool, true, _&&_}
+use mathlib.Core.Bool.{Bool, _&&_}
 use mathlib.Core.List.{List, [], _∷_}
 use Prim.Native.Nat.{ℕ}
 use lib.Dec.{T, eqb}
 use lib.IntN.{ℤ, pos}
 use lib.ListN.{set, replicate}
+use Rattle.algebra.specs.Every.{everyOf}
 use Rattle.algebra.specs.Sum.{sum}
 use Rattle.algebra.specs.Greatest.{greatest}
 use Rattle.base.specs.Rules.{inside}
@@ -31,10 +32,6 @@ pub holds : Case → Bool
 holds (judged l kernel answer former) =
     eqb (runCode tileEngine l (ones l) kernel (outputCount l) (scratchWords l)) answer
     && eqb (formerRunCode tileEngine l (ones l) kernel (outputCount l) (scratchWords l)) former
-
-pub allHold : List Case → Bool
-allHold [] = true
-allHold (case ∷ cases) = holds case && allHold cases
 
 -- sixteen weights of 8,192: in each of the four groups by 2 of a plane of 4 by 4 they add up to 32,768
 abbrev full : List ℤ
@@ -73,7 +70,7 @@ cases =
     ∷ []
 
 -- every case of the table holds
-pub cases-hold : T (allHold cases)
-unfolding allHold cases holds convSize tconvSize sum greatest planCode runCode formerRunCode inside cropFits withinPeak offenderOf firstBeyond
+pub cases-hold : T (everyOf holds cases)
+unfolding cases holds convSize tconvSize sum greatest planCode runCode formerRunCode inside cropFits withinPeak offenderOf firstBeyond
     noneBlank blank loadsFit formerLoadsFit load formerLoad sizeTotal groupTotal greatestGroup
 cases-hold = tt

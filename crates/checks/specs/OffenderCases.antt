@@ -1,10 +1,11 @@
 -- 02, E11: maps with what is told of them, as one table of cases, held by one theorem. It is proved by computation with the definitions.
-use mathlib.Core.Bool.{Bool, true, _&&_}
+use mathlib.Core.Bool.{Bool, _&&_}
 use mathlib.Core.List.{List, [], _∷_}
 use Prim.Native.Nat.{ℕ}
 use lib.Dec.{T, eqb}
 use lib.IntN.{ℤ, pos}
 use lib.ListN.{set, replicate}
+use Rattle.algebra.specs.Every.{everyOf}
 use Rattle.algebra.specs.Sum.{sum}
 use Rattle.algebra.specs.Greatest.{greatest}
 use Rattle.base.specs.Rules.{inside}
@@ -29,10 +30,6 @@ pub holds : Case → Bool
 holds (told l map number channel row column side) =
     let place = offenderWith (answer l map) l map in
     eqb (answer l map) number && eqb (place .channel) channel && eqb (place .row) row && eqb (place .column) column && eqb (place .side) side
-
-pub allHold : List Case → Bool
-allHold [] = true
-allHold (case ∷ cases) = holds case && allHold cases
 
 -- two channels of 2 rows of 3 values, A 9
 abbrev two : Layer
@@ -60,7 +57,7 @@ cases =
     ∷ []
 
 -- every case of the table holds
-pub cases-hold : T (allHold cases)
-unfolding allHold cases holds convSize tconvSize sum planCode runCode inside cropFits withinPeak offenderOf firstBeyond offenderWith
+pub cases-hold : T (everyOf holds cases)
+unfolding cases holds convSize tconvSize sum planCode runCode inside cropFits withinPeak offenderOf firstBeyond offenderWith
     noneBlank blank loadsFit load sizeTotal groupTotal greatestGroup greatest
 cases-hold = tt

@@ -20,7 +20,7 @@ use Rattle.checks.specs.Engine.{Engine, Lawful}
 use Rattle.checks.specs.Checks.{isPlaced, offenderWith}
 use Rattle.checks.specs.ChecksLaws.{job-callable}
 use Rattle.checks.specs.OffenderLaws.{accepted-place}
-use Rattle.checks.specs.BeyondLaws.{placed-offends, side-of-15, side-of-25}
+use Rattle.checks.specs.BeyondLaws.{sideNumber, placed-offends, placed-number}
 use Rattle.engine.specs.declared.job.Job.{Job}
 use Rattle.engine.specs.declared.job.Progress.{Progress}
 use Rattle.engine.specs.Call.{startOf, countOf, accepted, refused, finished, cleared, callCode, Called}
@@ -60,7 +60,7 @@ module _ {engine : Engine} {job : Job} {budget : ℕ} {map kernel output : List 
         by-code zero = sym (accepted-place (job .layer) map refl)
         by-code (suc code) = refl
 
-    -- with 15 and 25 they are those of the first map value beyond the peak, and the side is the number's
+    -- with 15 and 25 they are those of the first map value beyond the peak, and the number is its side's
     first-told : isPlaced (progress .code) ≡ true → progress .offender ≡ offenderOf (job .layer) map
     unfolding offenderWith
     first-told placed = called-place ∙ rw placed
@@ -70,15 +70,11 @@ module _ {engine : Engine} {job : Job} {budget : ℕ} {map kernel output : List 
         rw (first-told placed)
         (placed-offends engine (job .layer) map kernel (length output) (length scratch) (job .next) lawful (rw called-code at placed))
 
-    pub called-15 : progress .code ≡ 15 → progress .offender .side ≡ 1
-    called-15 e =
-        rw (first-told (ap isPlaced e))
-        (side-of-15 engine (job .layer) map kernel (length output) (length scratch) (job .next) (sym called-code ∙ e))
-
-    pub called-25 : progress .code ≡ 25 → progress .offender .side ≡ 2
-    called-25 e =
-        rw (first-told (ap isPlaced e))
-        (side-of-25 engine (job .layer) map kernel (length output) (length scratch) (job .next) (sym called-code ∙ e))
+    pub called-number : isPlaced (progress .code) ≡ true → progress .code ≡ sideNumber (progress .offender .side)
+    called-number placed =
+        rw (first-told placed)
+        (called-code
+        ∙ placed-number engine (job .layer) map kernel (length output) (length scratch) (job .next) (rw called-code at placed))
 
     -- no call changes the length of a buffer
     pub output-length : length output-left ≡ length output

@@ -8,7 +8,7 @@ use Prim.Native.Nat.{ℕ, zero, suc, _+_, _*_, _/_, _%_, _≤_, _<_}
 use native.Mathlib.Nat.{mod-lt, mul-le-mul, div-lt-iff-lt-mul, div-add-mod'}
 use native.Mathlib.Numerals.{add-one}
 use native.Mathlib.Omega.{arith}
-use borrow.Author.Tests.{leb-true, leb-false, le-leb, lt-leb, ltb-true}
+use borrow.Author.Tests.{leb-true, leb-false, le-leb, lt-leb, le-ltb}
 use lib.Dec.{leb}
 use lib.IntN.{ℤ, pos, negsuc, natAbs}
 use lib.ListN.{length, getD}
@@ -22,18 +22,14 @@ use Rattle.load.specs.Offender.{sideOf, firstBeyond, noOffender, offende
 -- ---- the side of a value
 
 module _ (peak : ℕ) where
-  -- a value beyond the peak has the side of its sign
-  pub side-below : (v : ℤ) → ltZ v (pos 0) ≡ true → peak < natAbs v → sideOf peak v ≡ 2
-  side-below (pos n) e h = absurd (omega (arith, ltb-true n 0 e))
-  side-below (negsuc n) e h = rw (lt-leb (suc n) peak h)
+  -- a value beyond the peak has the side of its sign: 2 below 0, else 1
+  pub side-sign : (v : ℤ) → peak < natAbs v → sideOf peak v ≡ cond (ltZ v (pos 0)) 2 1
+  side-sign (pos n) h = rw (lt-leb n peak h, le-ltb n 0 (omega arith))
+  side-sign (negsuc n) h = rw (lt-leb (suc n) peak h)
 
-  pub side-above : (v : ℤ) → ltZ v (pos 0) ≡ false → peak < natAbs v → sideOf peak v ≡ 1
-  side-above (pos n) e h = rw (lt-leb n peak h)
-  side-above (negsuc n) e h = absurd (true≢false e)
-
-  pub side-beyond : (v : ℤ) → peak < natAbs v → (sideOf peak v ≡ 1) ⊎ (sideOf peak v ≡ 2)
-  side-beyond (pos n) h = inl (rw (lt-leb n peak h))
-  side-beyond (negsuc n) h = inr (rw (lt-leb (suc n) peak h))
+  pub side-either : (v : ℤ) → peak < natAbs v → (sideOf peak v ≡ 1) ⊎ (sideOf peak v ≡ 2)
+  side-either (pos n) h = inl (rw (lt-leb n peak h))
+  side-either (negsuc n) h = inr (rw (lt-leb (suc n) peak h))
 
   -- it is 0 exactly where the size is within the peak
   pub side-none : (v : ℤ) → natAbs v ≤ peak → sideOf peak v ≡ 0
@@ -45,7 +41,7 @@ module _ (peak : ℕ) where
     where
       by-test : (t : Bool) → leb (natAbs v) peak ≡ t → natAbs v ≤ peak
       by-test true l = leb-true (natAbs v) peak l
-      by-test false l = ⊎-elim (λ s. absurd (omega (arith, e, s))) (λ s. absurd (omega (arith, e, s))) (side-beyond v (leb-false (natAbs v) peak l))
+      by-test false l = ⊎-elim (λ s. absurd (omega (arith, e, s))) (λ s. absurd (omega (arith, e, s))) (side-either v (leb-false (natAbs v) peak l))
 
 -- ---- the first value of a list that is beyond the peak
 
@@ -140,4 +136,4 @@ module _ (l : Layer) (map : List ℤ) where
   unfolding offenderOf
   offender-side beyond =
       rw (beyond, stored-place l (firstBeyond (l .peak) map))
-      (side-beyond (l .peak) (getD map (firstBeyond (l .peak) map) (pos 0)) (first-beyond (l .peak) map beyond .beyond))
+      (side-either (l .peak) (getD map (firstBeyond (l .peak) map) (pos 0)) (first-beyond (l .peak) map beyond .beyond))

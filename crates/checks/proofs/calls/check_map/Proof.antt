@@ -28,12 +28,12 @@ next-requires-2 c κs = search needs
 
 returns : tie.Need-returns
 returns c =
-    let s = c .before .before .before .before .before in
+    let s : tie.Start = search in
+    let found : tie.After-first-offender = search in
     let l = s .args .layer in
     let map = now (s .args .map) in
-    let found = c .before .before .before .before .first-offender .ensures in
     let code : c .next2 .result ≡ firstBroken (mapValueRules l map) = in-order (mapValueRules l map) tt (search (rule-steps, side-tests) depth 20) in
-    (code, found ∙ sym (map-place l map) ∙ ap (λ (n : ℕ). offenderWith n l map) (sym code))
+    (code, found .first-offender .ensures ∙ sym (map-place l map) ∙ ap (λ (n : ℕ). offenderWith n l map) (sym code))
 
 pub check-map-spec : {M : Type 1} → statement M
 check-map-spec = tie.close (tie.spec first-offender-requires next-requires next-requires-2 returns)
