@@ -1,5 +1,6 @@
 -- definitions
 pub mod Sum
+pub mod First
 pub mod Greatest
 pub mod Every
 pub mod Congruence
@@ -10,8 +11,9 @@ pub mod Planes
 pub mod SumLaws
 pub mod DoubleSums
 pub mod TripleSums
-pub mod GreatestLaws
 pub mod EveryLaws
+pub mod FirstLaws
+pub mod GreatestLaws
 pub mod PowerLaws
 pub mod CongruenceLaws
 pub mod Integer

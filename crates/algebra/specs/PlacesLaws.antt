@@ -1,4 +1,5 @@
--- Laws of places, of `table` and of `Written`: no store, one store, one more place of a run, two writes in a row, a part that was lent.
+-- Laws of places, of `table` and of `Written`: no store, one store, one more place of a run, a run after
+-- another, two writes in a row, a part that was lent.
 use mathlib.Core.Path.{_≡_, refl, sym, ap, _∙_}
 use mathlib.Core.Logic.{_⊎_, inl, inr, ⊎-elim}
 use mathlib.Core.List.{List, [], _∷_, _++_, append-assoc, append-nil}
@@ -121,6 +122,15 @@ module _ {A : Type 0} {d : A} where
           go : Dec (p ≡ at + i) → (Run at i p × (p ≡ at + i → ⊥)) ⊎ (p ≡ at + i)
           go (yes e) = inr e
           go (no n) = inl ((h .0, omega arith), n)
+
+  -- a run, and another from where it ends
+  pub written-further : {v : ℕ → A} {xs ys zs : List A} (at n k : ℕ) {next : ℕ} → next ≡ at + n → Written d (Run at n) v xs ys → Written d (Run next k) v ys zs
+      → Written d (Run at (n + k)) v xs zs
+  written-further at n k {next} e a b = written-again a b (λ p l h. to p h (decLt p next)) (λ p h. (h .0, omega arith)) (λ p h. (omega arith, omega arith))
+    where
+      to : (p : ℕ) → Run at (n + k) p → Dec (p < next) → (Run at n p × (Run next k p → ⊥)) ⊎ Run next k p
+      to p h (yes l) = inl ((h .0, omega arith), λ r. omega arith)
+      to p h (no m) = inr (omega arith, omega arith)
 
   -- a part of the list that was lent and came back
   pub written-part : {P : ℕ → Type 0} {v : ℕ → A} {xs ys : List A} (a k : ℕ) → a + k ≤ length xs → Written d P v (midOf a k xs) ys

@@ -2,7 +2,7 @@
 use mathlib.Core.Bool.{Bool, _&&_, cond}
 use mathlib.Core.List.{List, [], _∷_}
 use Prim.Native.Nat.{ℕ, zero, suc}
-use lib.Dec.{leb}
+use lib.Dec.{leb, eqb}
 
 -- a rule: the number that its breach is answered with, and whether it holds
 pub data Rule : Type 0 where
@@ -12,6 +12,11 @@ pub data Rule : Type 0 where
 abbrev pub firstBroken : List Rule → ℕ
 firstBroken [] = 0
 firstBroken (rule number holds ∷ rules) = cond holds (firstBroken rules) number
+
+-- the rules before the first with this number
+abbrev pub rulesBefore : (number : ℕ) → List Rule → List Rule
+rulesBefore number [] = []
+rulesBefore number (rule other holds ∷ rules) = cond (eqb other number) [] (rule other holds ∷ rulesBefore number rules)
 
 -- the first of two codes that is not 0, or 0
 unfoldable pub firstCode : (code other : ℕ) → ℕ

@@ -7,9 +7,9 @@ use Prim.Native.Nat.{ℕ, zero, suc, _<_, _≤_}
 use native.Mathlib.Omega.{arith}
 use lib.Dec.{T, eqb, leb, ltb, ltb→lt}
 use mir.Facts.{and-yes}
-use borrow.Author.Tests.{leb-true, le-leb}
+use borrow.Author.Tests.{leb-true, le-leb, eqb-false}
 use Rattle.algebra.specs.EveryLaws.{both-true}
-use Rattle.base.specs.Rules.{Rule, rule, firstBroken, nextCode, firstCode, inside, outcome}
+use Rattle.base.specs.Rules.{Rule, rule, firstBroken, rulesBefore, nextCode, firstCode, inside, outcome}
 
 -- ---- what the answer 0 says
 
@@ -138,6 +138,18 @@ both-accept rules more n e = by-first (firstBroken rules) refl
     by-first : (code : ℕ) → code ≡ firstBroken rules → (firstBroken rules ≡ 0) × (firstBroken more ≡ 0)
     by-first zero f = (sym f, sym (second-answers rules more n (sym f)) ∙ e)
     by-first (suc code) f = absurd (omega (arith, first-answers rules more f (λ z. omega arith), e))
+
+-- a code that is no 0 is that of a rule before which all hold
+pub before-holds : (number : ℕ) → (number ≡ 0 → ⊥) → (rules : List Rule) → firstBroken rules ≡ number → firstBroken (rulesBefore number rules) ≡ 0
+before-holds number some [] e = refl
+before-holds number some (rule other holds ∷ rules) e = by-number (eqb other number) refl holds e (before-holds number some rules)
+  where
+    by-number : (same : Bool) → eqb other number ≡ same → (holds : Bool) → cond holds (firstBroken rules) other ≡ number
+        → (firstBroken rules ≡ number → firstBroken (rulesBefore number rules) ≡ 0)
+        → firstBroken (cond same [] (rule other holds ∷ rulesBefore number rules)) ≡ 0
+    by-number true t holds e later = refl
+    by-number false t true e later = later e
+    by-number false t false e later = absurd (eqb-false other number t e)
 
 -- ---- both tests of `inside`
 

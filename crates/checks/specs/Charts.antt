@@ -41,10 +41,10 @@ pub data Claim : Type 0 where
   -- there are N words, and their transform has this entry at this place
   entry : (field : ℕ) → (words : List ℕ) → (place value : ℕ) → Claim
 
-abbrev equal : ℤ → ℤ → Bool
+abbrev pub equal : ℤ → ℤ → Bool
 equal x y = eqb (natAbs (x -ℤ y)) 0
 
-abbrev equals : List ℤ → List ℤ → Bool
+abbrev pub equals : List ℤ → List ℤ → Bool
 equals [] [] = true
 equals [] (y ∷ ys) = false
 equals (x ∷ xs) [] = false

@@ -5,6 +5,7 @@ use mathlib.Core.List.{List, [], _∷_, _++_}
 use Prim.Native.Nat.{ℕ, zero, suc}
 use lib.Dec.{eqb}
 use lib.IntN.{ℤ}
+use lib.ListN.{length}
 use Rattle.base.specs.Rules.{Rule, firstBroken}
 use Rattle.layer.specs.declared.shape.Layer.{Layer}
 use Rattle.layer.specs.declared.shape.Plan.{Plan}
@@ -35,7 +36,7 @@ outputRules l = outputRule l ∷ cropRule l ∷ []
 -- 10 to 14: the lengths of what is lent, and the peak
 abbrev pub lentRules : (words : ℕ) → Layer → (map kernel : List ℤ) → (output scratch : ℕ) → List Rule
 lentRules words l map kernel output scratch =
-    mapLengthRule l map ∷ kernelLengthRule l kernel ∷ outputLengthRule l output ∷ scratchRule words scratch ∷ peakRule l ∷ []
+    mapLengthRule l (length map) ∷ kernelLengthRule l kernel ∷ outputLengthRule l output ∷ scratchRule words scratch ∷ peakRule l ∷ []
 
 -- 15 and 25: the values of the map
 abbrev pub mapValueRules : Layer → (map : List ℤ) → List Rule
@@ -71,9 +72,12 @@ module _ (engine : Engine) where
   unfoldable pub planCode : Layer → ℕ
   planCode l = firstBroken (shapeRules (engine .last-field) l ++ outputRules l)
 
+  abbrev pub runRules : Layer → (map kernel : List ℤ) → (output scratch : ℕ) → List Rule
+  runRules l map kernel output scratch =
+      shapeRules (engine .last-field) l ++ outputRules l ++ callRules (engine .words l) l map kernel output scratch
+
   unfoldable pub runCode : Layer → (map kernel : List ℤ) → (output scratch : ℕ) → ℕ
-  runCode l map kernel output scratch =
-      firstBroken (shapeRules (engine .last-field) l ++ outputRules l ++ callRules (engine .words l) l map kernel output scratch)
+  runCode l map kernel output scratch = firstBroken (runRules l map kernel output scratch)
 
   unfoldable pub jobCode : Layer → ℕ → (map kernel : List ℤ) → (output scratch : ℕ) → ℕ
   jobCode l next map kernel output scratch =

@@ -10,13 +10,13 @@ use lib.ListN.{length}
 use borrow.Author.Tests.{leb-true, ltb-true, le-leb, eqb-true}
 use Rattle.algebra.specs.EveryLaws.{both-true}
 use Rattle.base.specs.Rules.{Rule, rule, firstBroken, inside}
-use Rattle.base.specs.RulesLaws.{none-broken, inside-low, inside-high, both-accept}
+use Rattle.base.specs.RulesLaws.{none-broken, all-hold, inside-low, inside-high, inside-from, both-accept}
 use Rattle.layer.specs.PlannedLaws.{added-high, height-extent, width-extent, full-high, crop-low, crop-end}
 use Rattle.layer.specs.Planned.{addedFits, hasOutput, cropFits, InRange, Planned}
 use Rattle.layer.specs.declared.shape.Layer.{Layer}
 use Rattle.layer.specs.Shape.{mapCount, kernelCount, outputCount, fullHeight, fullWidth}
 use Rattle.checks.specs.Callable.{Callable}
-use Rattle.checks.specs.Engine.{Engine, Lawful}
+use Rattle.checks.specs.Engine.{Engine, tileEngine, Lawful}
 use Rattle.checks.specs.OffenderLaws.{both-within}
 use Rattle.checks.specs.Checks.{shapeRules, outputRules, callRules, jobRules, planCode, runCode, jobCode, figures, planOf}
 
@@ -70,6 +70,15 @@ planned {engine} lawful l e =
       full-height-high = full-high l (l .height) (l .below) (height-extent l r);
       full-width-high = full-high l (l .width) (l .beside) (width-extent l r);
     }
+
+-- what any engine plans 01's does, which takes both fields
+pub tile-plans : {engine : Engine} → Lawful engine → (l : Layer) → planCode engine l ≡ 0 → planCode tileEngine l ≡ 0
+unfolding planCode
+tile-plans {engine} lawful l e =
+    let (kind, (field, rest)) = none-broken (shapeRules (engine .last-field) l ++ outputRules l) tt e in
+    let taken : l .field ≤ engine .last-field = inside-high 4 (engine .last-field) (l .field) field in
+    let both = inside-from 4 5 (l .field) (inside-low 4 (engine .last-field) (l .field) field) (omega (arith, lawful .known)) in
+    all-hold (shapeRules 5 l ++ outputRules l) (kind, (both, rest))
 
 -- ---- rules 10 to 17
 

@@ -56,9 +56,9 @@ module _ (l : Layer) where
   abbrev pub cropRule : Rule
   cropRule = rule 9 (cropFits (l .top) (l .rows) (fullHeight l) && cropFits (l .left) (l .columns) (fullWidth l))
 
-  -- 10: the map has C·H·W values
-  abbrev pub mapLengthRule : (map : List ℤ) → Rule
-  mapLengthRule map = rule 10 (eqb (length map) (mapCount l))
+  -- 10: the map has C·H·W values; `map` is how many it has
+  abbrev pub mapLengthRule : (map : ℕ) → Rule
+  mapLengthRule map = rule 10 (eqb map (mapCount l))
 
   -- 11: the kernel has M·C·K² weights
   abbrev pub kernelLengthRule : (kernel : List ℤ) → Rule

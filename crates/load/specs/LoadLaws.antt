@@ -8,25 +8,27 @@ use Prim.Native.Nat.{ℕ, zero, suc, _+_, _*_, _/_, _%_, _<_, _≤_}
 use native.Mathlib.Nat.{le-trans, mul-comm, mul-le-mul-left, mod-lt}
 use native.Mathlib.Decide.{ℕ-discrete}
 use native.Mathlib.Omega.{arith}
-use borrow.Author.Tests.{leb-true, eq-eqb, ne-eqb}
+use borrow.Author.Tests.{leb-true, le-leb, eq-eqb, ne-eqb}
 use lib.Dec.{T, leb}
 use lib.Arith.{digits-lt}
-use lib.ListN.{getD}
+use lib.ListN.{length, getD}
 use lib.IntN.{ℤ, pos, natAbs, _*ℤ_}
 use Rattle.algebra.specs.Planes.{cell}
 use Rattle.algebra.specs.Sum.{sum}
 use Rattle.algebra.specs.SizeLaws.{size-mul, size-sum-le}
 use Rattle.algebra.specs.Residue.{residue, signed}
 use Rattle.algebra.specs.ResidueLaws.{read-back}
-use Rattle.algebra.specs.EveryLaws.{every-at, both-true}
+use Rattle.algebra.specs.EveryLaws.{every-at, every-from, both-true}
 use Rattle.fermat.specs.Field.{modulus}
 use Rattle.layer.specs.Windows.{spread, weighed, metBy}
 use Rattle.layer.specs.PlannedLaws.{cond-le}
 use Rattle.layer.specs.declared.shape.Layer.{Layer}
-use Rattle.layer.specs.Shape.{isConv}
+use Rattle.layer.specs.Shape.{isConv, kernelCount}
+use Rattle.layer.specs.Planned.{InRange}
 use Rattle.layer.specs.Direct.{when, within, fullAt, planeOf}
 use Rattle.layer.specs.WeighedLaws.{full-weighed}
 use Rattle.load.specs.Load.{sizeTotal, inGroup, groupTotal, greatestGroup, load, loadLimit, loadsFit, withinPeak}
+use Rattle.load.specs.Weights.{Weighted}
 use Rattle.load.specs.GroupLaws.{spread-group, greatest-group-most, greatest-group-at}
 
 -- the planes that reach a channel are planes of the kernel
@@ -60,6 +62,18 @@ size-when true true z A three four f g h = rw (f tt, g tt) h
 size-when true false z A three four f g h = omega arith
 size-when false two z A three four f g h = omega arith
 
+-- what the code asks of a kernel: rules 1 to 7, 11 and 14 give it
+pub weighted : (l : Layer) (kernel : List ℤ) → InRange l → l .peak ≤ 32767 → length kernel ≡ kernelCount l → Weighted l kernel
+weighted l kernel r peak weights = record {
+  inputs-most = r .inputs-high;
+  outputs-most = r .outputs-high;
+  side-most = r .side-high;
+  stride-least = r .stride-low;
+  stride-most = r .stride-high;
+  peak-most = peak;
+  weights = weights;
+}
+
 -- both fields are odd, and the limit of each is at most half of it
 limits : (t : ℕ) → 4 ≤ t → t ≤ 5 → (modulus t % 2 ≡ 1) × (loadLimit t ≤ modulus t / 2)
 limits t low high = go (ℕ-discrete t 4)
@@ -76,6 +90,13 @@ unfolding withinPeak
 peak-bounds peak [] e n = omega arith
 peak-bounds peak (value ∷ values) e zero = leb-true (natAbs value) peak (both-true (leb (natAbs value) peak) (withinPeak peak values) e .0)
 peak-bounds peak (value ∷ values) e (suc n) = peak-bounds peak values (both-true (leb (natAbs value) peak) (withinPeak peak values) e .1) n
+
+-- and of all places
+pub peak-from : (peak : ℕ) (values : List ℤ) → ((n : ℕ) → n < length values → natAbs (getD values n (pos 0)) ≤ peak) → withinPeak peak values ≡ true
+unfolding withinPeak
+peak-from peak [] h = refl
+peak-from peak (value ∷ values) h =
+    rw (le-leb (natAbs value) peak (h 0 (omega arith))) (peak-from peak values (λ n l. h (suc n) (omega arith)))
 
 -- the load by kind, and a bound in both
 module _ (l : Layer) (kernel : List ℤ) (m : ℕ) where
@@ -95,6 +116,11 @@ module _ (l : Layer) (kernel : List ℤ) (m : ℕ) where
 pub load-fits : (l : Layer) (kernel : List ℤ) → loadsFit l kernel ≡ true → (m : ℕ) → m < l .outputs → load l kernel m ≤ loadLimit (l .field)
 unfolding loadsFit
 load-fits l kernel e m h = leb-true _ _ (every-at (l .outputs) (λ m. leb (load l kernel m) (loadLimit (l .field))) e m h)
+
+-- and of all of them
+pub loads-from : (l : Layer) (kernel : List ℤ) → ((m : ℕ) → m < l .outputs → load l kernel m ≤ loadLimit (l .field)) → loadsFit l kernel ≡ true
+unfolding loadsFit
+loads-from l kernel h = every-from (l .outputs) _ (λ m k. le-leb _ _ (h m k))
 
 module _ (l : Layer) (map kernel : List ℤ) (strided : 0 < l .stride) (bounded : (n : ℕ) → natAbs (getD map n (pos 0)) ≤ l .peak) where
   -- in CONV every weight may meet a value

@@ -48,18 +48,26 @@ fn load_fits(layer: Layer, kernel: &[i16], m: usize, total: u64, limit: u64) -> 
     peak * greatest_group(layer, kernel, m) <= limit
 }
 
-// Both tests of output channel m. One sum of sizes tells whether it is blank, and the load is tested by it.
-fn judge_channel(layer: Layer, kernel: &[i16], m: usize, limit: u64) -> Judged
+// The sum of the sizes of all weights that reach output channel m.
+pub fn size_total(layer: Layer, kernel: &[i16], m: usize) -> u64
     requires { ⌜ Weighted layer (now kernel) × (m < layer .outputs) ⌝ }
-    ensures { λ r. ⌜ r .nonzero ≡ not (blank layer (now (kernel .entry)) m) ⌝ }
-    ensures { λ r. ⌜ r .fits ≡ leb (load layer (now (kernel .entry)) m) limit ⌝ }
+    ensures { λ r. ⌜ (r ≡ sizeTotal layer (now (kernel .entry)) m) × (r ≤ 121 * 32768 * 64) ⌝ }
 {
     let all = Group {
         step: 1,
         row: 0,
         column: 0,
     };
-    let total = group_total(layer, kernel, m, all);
+    group_total(layer, kernel, m, all)
+}
+
+// Both tests of output channel m. One sum of sizes tells whether it is blank, and the load is tested by it.
+fn judge_channel(layer: Layer, kernel: &[i16], m: usize, limit: u64) -> Judged
+    requires { ⌜ Weighted layer (now kernel) × (m < layer .outputs) ⌝ }
+    ensures { λ r. ⌜ r .nonzero ≡ not (blank layer (now (kernel .entry)) m) ⌝ }
+    ensures { λ r. ⌜ r .fits ≡ leb (load layer (now (kernel .entry)) m) limit ⌝ }
+{
+    let total = size_total(layer, kernel, m);
     Judged {
         nonzero: total != 0,
         fits: load_fits(layer, kernel, m, total, limit),

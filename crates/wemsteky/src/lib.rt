@@ -14,6 +14,7 @@ ghost use Rattle.engine.specs.Call.{startOf};
 ghost use Rattle.levels.specs.Answer.{levelsCode, levelsLeft};
 ghost use Rattle.noise.specs.Draw.{lastSeed, noiseLeft};
 ghost use Rattle.join.specs.Answer.{joinCode, joinLeft};
+ghost use Rattle.worst.specs.Answer.{worstCode, worstLeft};
 ghost use Rattle.wemsteky.specs.Figures.{planFigures, progressFigures, Reported};
 
 // E, F, the tile total and 3N²; zeros where the layer is refused.
@@ -134,4 +135,12 @@ pub extern "C" fn wemsteky_join(
         second_kernel,
         joined,
     )
+}
+
+#[no_mangle]
+pub extern "C" fn wemsteky_worst_map(layer: &[usize; 16], kernel: &[i16], map: &mut [i16]) -> usize
+    ensures { λ r. ⌜ r ≡ worstCode (layerOf (now (layer .entry))) (now (kernel .entry)) (length (now (map .entry))) ⌝ }
+    ensures { λ _. ⌜ now (map .exit) ≡ worstLeft (layerOf (now (layer .entry))) (now (kernel .entry)) (now (map .entry)) ⌝ }
+{
+    worst::worst_map(layer_of(layer), kernel, map)
 }

@@ -11,6 +11,7 @@ use Rattle.base.specs.Rules.{Rule, firstBroken}
 use Rattle.base.specs.RulesLaws.{none-broken, inside-high, first-answers, goes-on, one-rule}
 use Rattle.layer.specs.Planned.{Planned}
 use Rattle.layer.specs.Shape.{mapCount, kernelCount, scratchWords, tileTotal}
+use Rattle.load.specs.LoadLaws.{weighted}
 use Rattle.checks.specs.Checks.{shapeRules, outputRules, lentRules, valueRules, jobRules, planCode, jobCode}
 use Rattle.checks.specs.ChecksLaws.{planned}
 use Rattle.checks.specs.Engine.{tileEngine}
@@ -98,15 +99,7 @@ check-values-requires c κs =
     let l = s .args .layer in
     let hold = none-broken (lent-rules s) tt (sym (c .before .lent-code .ensures) ∙ c .if2 .left) in (
       eqb-true (length (now (s .args .map))) (mapCount l) search,
-      record {
-        inputs-most = shape .inputs-high;
-        outputs-most = shape .outputs-high;
-        side-most = shape .side-high;
-        stride-least = shape .stride-low;
-        stride-most = shape .stride-high;
-        peak-most = inside-high 1 32767 (l .peak) search;
-        weights = eqb-true (length (now (s .args .kernel))) (kernelCount l) search;
-      },
+      weighted l (now (s .args .kernel)) shape (inside-high 1 32767 (l .peak) search) (eqb-true (length (now (s .args .kernel))) (kernelCount l) search),
     )
 
 returns-3 : tie.Need-returns-3

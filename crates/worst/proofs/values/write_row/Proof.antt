@@ -1,0 +1,136 @@
+-- `write_row` writes value after value.
+use mathlib.Core.Path.{_≡_, sym, ap, _∙_}
+use Prim.Native.Nat.{ℕ, _+_, _*_, _-_, _<_, _≤_}
+use native.Mathlib.Nat.{mul-le-mul}
+use native.Mathlib.Omega.{arith}
+use borrow.Author.Needs.{needs, sfits-of}
+use denote.Ref.{now}
+use lib.Arith.{digits-lt}
+use lib.IntN.{ℤ, pos}
+use lib.ListN.{length}
+use mir.Facts.{toZ-ofZ}
+use mir.Syntax.{w16}
+use mir.Val.{toZ, ofZ}
+use Rattle.algebra.specs.Places.{Written, Run}
+use Rattle.algebra.specs.PlacesLaws.{written-nothing, written-longer}
+use Rattle.worst.specs.Worst.{valueFor, valueAt}
+use Rattle.worst.specs.WorstLaws.{value-at}
+use Rattle.worst.proofs.values.write_row.Statement.{statement}
+use Rattle.worst.proofs.values.write_row.Tie as tie
+
+abbrev Inv-loop : tie.InvT-loop
+Inv-loop layer kernel output c i map₀ start j₀ map j =
+    (j ≤ layer .width) × Written (pos 0) (Run ((c * layer .height + i) * layer .width) j) (valueAt layer kernel output) map₀ map
+
+abbrev μ-loop : tie.MeasureT-loop
+μ-loop layer kernel output c i map₀ start j₀ map j = layer .width - j
+
+-- the row lies in the map, which has at most 2^24 values
+module _ (s : tie.Start Inv-loop μ-loop) where
+  abbrev line : ℕ
+  line = s .args .c * s .args .layer .height + s .args .i
+
+  line-in : line < s .args .layer .inputs * s .args .layer .height
+  line-in = digits-lt (s .pre .1) (s .pre .2)
+
+  lines-high : s .args .layer .inputs * s .args .layer .height ≤ 32768
+  lines-high = let r = s .pre .0 .shown .plan .shape in mul-le-mul {n₂ = 64} {m₂ = 512} (r .inputs-high) (r .height-high)
+
+  place-in : (j : ℕ) → j < s .args .layer .width → line * s .args .layer .width + j < length (now (s .args .map))
+  place-in j h =
+      let below : line * s .args .layer .width + j < s .args .layer .inputs * s .args .layer .height * s .args .layer .width = digits-lt line-in h in
+      omega (arith, s .pre .3)
+
+  row-high : line * s .args .layer .width ≤ 16777216
+  row-high = mul-le-mul {n₂ = 32768} {m₂ = 512} (omega (arith, line-in, lines-high)) (s .pre .0 .shown .plan .shape .width-high)
+
+mul-start : tie.Need-mul-start Inv-loop μ-loop
+mul-start c = let s : tie.Start Inv-loop μ-loop = search in omega (arith, line-in s, lines-high s)
+
+add-start : tie.Need-add-start Inv-loop μ-loop
+add-start c = let s : tie.Start Inv-loop μ-loop = search in omega (arith, line-in s, lines-high s)
+
+mul-start-2 : tie.Need-mul-start-2 Inv-loop μ-loop
+mul-start-2 c = let s : tie.Start Inv-loop μ-loop = search in omega (arith, row-high s)
+
+loop-holds : tie.Need-loop-holds Inv-loop μ-loop
+loop-holds c = (omega arith, written-nothing (λ p h. omega arith))
+
+weight-at-requires : tie.Need-weight-at-requires Inv-loop μ-loop
+weight-at-requires c κs =
+    let s : tie.Start Inv-loop μ-loop = search in
+    let turn : tie.Then1 Inv-loop μ-loop = search in
+    (s .pre .0, s .pre .1, s .pre .2, turn .if1 .taken)
+
+value-for-requires : tie.Need-value-for-requires Inv-loop μ-loop
+value-for-requires c κs = let s : tie.Start Inv-loop μ-loop = search in s .pre .0 .shown .weights .peak-most
+
+add-place : tie.Need-add-place Inv-loop μ-loop
+add-place c =
+    let s : tie.Start Inv-loop μ-loop = search in
+    let turn : tie.Then1 Inv-loop μ-loop = search in
+    omega (arith, row-high s, turn .if1 .taken, s .pre .0 .shown .plan .shape .width-high)
+
+mul-value : tie.Need-mul-value Inv-loop μ-loop
+mul-value c =
+    let s : tie.Start Inv-loop μ-loop = search in
+    let turn : tie.Then1 Inv-loop μ-loop = search in
+    omega (arith, row-high s, turn .if1 .taken, s .pre .0 .shown .plan .shape .width-high)
+
+slice-set-from-value : tie.Need-slice-set-from-value Inv-loop μ-loop
+slice-set-from-value c =
+    let s : tie.Start Inv-loop μ-loop = search in
+    let turn : tie.Then1 Inv-loop μ-loop = search in
+    let at : tie.At-loop Inv-loop μ-loop = search in
+    omega (arith, place-in s _ (turn .if1 .taken), at .loop .inv .1 .same-length)
+
+add-j : tie.Need-add-j Inv-loop μ-loop
+add-j c = search needs
+
+loop-less : tie.Need-loop-less Inv-loop μ-loop
+loop-less c = search needs
+
+loop-again : tie.Need-loop-again Inv-loop μ-loop
+loop-again c =
+    let s : tie.Start Inv-loop μ-loop = search in
+    let turn : tie.Then1 Inv-loop μ-loop = search in
+    let at : tie.At-loop Inv-loop μ-loop = search in
+    let a = s .args in
+    let made : tie.After-value-for Inv-loop μ-loop = search in
+    let weighed : tie.After-weight-at Inv-loop μ-loop = search in
+    let word = toZ-ofZ (sfits-of (weighed .weight-at .ok)) in
+    let is : toZ w16 (ofZ w16 (made .value-for .result)) ≡ valueAt (a .layer) (now (a .kernel)) (a .output) (line s * a .layer .width + at .loop .j) =
+    toZ-ofZ (sfits-of (made .value-for .ok)) ∙ made .value-for .ensures ∙ ap (valueFor (a .layer .peak)) (word ∙ weighed .weight-at .ensures)
+    ∙ sym (value-at (a .layer) (now (a .kernel)) (a .output) (a .c) (a .i) (at .loop .j) (s .pre .2) (turn .if1 .taken)) in
+    (omega arith, written-longer (line s * a .layer .width) (at .loop .j) _ (place-in s _ (turn .if1 .taken)) (at .loop .inv .1) is)
+
+same-length : tie.Need-same-length Inv-loop μ-loop
+same-length c = search needs
+
+returns : tie.Need-returns Inv-loop μ-loop
+returns c =
+    let at : tie.At-loop Inv-loop μ-loop = search in
+    let s : tie.Start Inv-loop μ-loop = search in
+    let last : at .loop .j ≡ s .args .layer .width = omega arith in
+    rw last at (at .loop .inv .1)
+
+pub write-row-spec : {M : Type 1} → statement M
+write-row-spec =
+    tie.close
+    (tie.spec
+    Inv-loop
+    μ-loop
+    mul-start
+    add-start
+    mul-start-2
+    loop-holds
+    weight-at-requires
+    value-for-requires
+    add-place
+    mul-value
+    slice-set-from-value
+    add-j
+    loop-less
+    loop-again
+    same-length
+    returns)

@@ -1,0 +1,25 @@
+-- What the rules of `worst_map` give of a layer and its kernel, and what the code asks of the output that a map is made for.
+use mathlib.Core.Path.{_≡_}
+use mathlib.Core.Bool.{true}
+use mathlib.Core.List.{List}
+use Prim.Native.Nat.{_<_}
+use lib.IntN.{ℤ}
+use Rattle.layer.specs.declared.shape.Layer.{Layer}
+use Rattle.layer.specs.Shape.{fullHeight, fullWidth}
+use Rattle.layer.specs.Planned.{Planned}
+use Rattle.load.specs.Weights.{Weighted}
+use Rattle.worst.specs.declared.output.Output.{Output}
+use Rattle.worst.specs.Window.{hasWhole}
+
+pub record Shown (l : Layer) (kernel : List ℤ) : Type 0 where
+  pub plan : Planned l
+  pub weights : Weighted l kernel
+  pub conv-kind : l .kind ≡ 0
+  pub whole : hasWhole l ≡ true
+
+-- the output is one of the full output
+pub record ShownAt (l : Layer) (kernel : List ℤ) (o : Output) : Type 0 where
+  pub shown : Shown l kernel
+  pub channel-in : o .channel < l .outputs
+  pub row-in : o .row < fullHeight l
+  pub column-in : o .column < fullWidth l

@@ -1,0 +1,94 @@
+// The values of the map, written in stored order: at each place of the output's window the peak with the sign of the weight that meets it, elsewhere 0.
+use crate::output::Output;
+use layer::shape::Layer;
+ghost use mathlib.Core.Path.{_≡_};
+ghost use Prim.Native.Nat.{_+_, _*_, _<_, _≤_};
+ghost use lib.IntN.{pos};
+ghost use lib.ListN.{length};
+ghost use Rattle.algebra.specs.Places.{Written, Run};
+ghost use Rattle.layer.specs.Direct.{within};
+ghost use Rattle.layer.specs.Shape.{mapCount};
+ghost use Rattle.worst.specs.Worst.{valueFor, weightAt, valueAt, mapFor};
+ghost use Rattle.worst.specs.Shown.{ShownAt};
+
+// The value for a weight.
+fn value_for(weight: i16, peak: usize) -> i16
+    requires { ⌜ peak ≤ 32767 ⌝ }
+    ensures { λ r. ⌜ r ≡ valueFor peak weight ⌝ }
+{
+    let high = peak as i16;
+    if weight > 0 {
+        return high;
+    }
+    if weight < 0 {
+        return 0 - high;
+    }
+    0
+}
+
+// Whether u − p is from 0 to n − 1.
+fn is_within(p: usize, n: usize, u: usize) -> bool
+    ensures { λ r. ⌜ r ≡ within p n u ⌝ }
+{
+    p <= u && u - p < n
+}
+
+// The weight that meets row i, column j of map channel c in the output's sum; outside the window there is none, which counts as a weight of 0.
+fn weight_at(layer: Layer, kernel: &[i16], output: Output, c: usize, i: usize, j: usize) -> i16
+    requires { ⌜ ShownAt layer (now kernel) output × (c < layer .inputs) × (i < layer .height) × (j < layer .width) ⌝ }
+    ensures { λ r. ⌜ r ≡ weightAt layer (now (kernel .entry)) output c i j ⌝ }
+{
+    let side = layer.side;
+    let top = output.row * layer.stride;
+    let left = output.column * layer.stride;
+    let row = i + layer.padding;
+    let column = j + layer.padding;
+    let in_rows = is_within(top, side, row);
+    let in_columns = is_within(left, side, column);
+    if in_rows & in_columns {
+        let plane = output.channel * layer.inputs + c;
+        let line = plane * side + (row - top);
+        return kernel[line * side + (column - left)];
+    }
+    0
+}
+
+// Row i of map channel c.
+fn write_row(layer: Layer, kernel: &[i16], output: Output, c: usize, i: usize, map: &mut [i16])
+    requires { ⌜ ShownAt layer (now kernel) output × (c < layer .inputs) × (i < layer .height) × (length (now map) ≡ mapCount layer) ⌝ }
+    ensures { λ _. ⌜ Written (pos 0) (Run ((c * layer .height + i) * layer .width) (layer .width)) (valueAt layer (now (kernel .entry)) output) (now (map .entry)) (now (map .exit)) ⌝ }
+{
+    let start = (c * layer.height + i) * layer.width;
+    let mut j = 0;
+    while j < layer.width {
+        let weight = weight_at(layer, kernel, output, c, i, j);
+        let value = value_for(weight, layer.peak);
+        let place = start + j;
+        map[place] = value;
+        j += 1;
+    }
+}
+
+// Map channel c, row by row.
+fn write_plane(layer: Layer, kernel: &[i16], output: Output, c: usize, map: &mut [i16])
+    requires { ⌜ ShownAt layer (now kernel) output × (c < layer .inputs) × (length (now map) ≡ mapCount layer) ⌝ }
+    ensures { λ _. ⌜ Written (pos 0) (Run (c * layer .height * layer .width) (layer .height * layer .width)) (valueAt layer (now (kernel .entry)) output) (now (map .entry)) (now (map .exit)) ⌝ }
+{
+    let mut i = 0;
+    while i < layer.height {
+        write_row(layer, kernel, output, c, i, map);
+        i += 1;
+    }
+}
+
+// The whole map, channel by channel.
+pub(crate) fn write_map(layer: Layer, kernel: &[i16], output: Output, map: &mut [i16])
+    requires { ⌜ ShownAt layer (now kernel) output × (length (now map) ≡ mapCount layer) ⌝ }
+    ensures { λ _. ⌜ now (map .exit) ≡ mapFor layer (now (kernel .entry)) output ⌝ }
+{
+    let mut c = 0;
+    while c < layer.inputs {
+        write_plane(layer, kernel, output, c, map);
+        c += 1;
+    }
+}
