@@ -1,4 +1,4 @@
-//! The eight functions of include/wemsteky.h, behind slices.
+//! The nine functions of include/wemsteky.h, behind slices.
 
 use crate::rules::Offender;
 
@@ -51,6 +51,13 @@ mod c {
             second_len: usize,
             joined: *mut i16,
             joined_len: usize,
+        ) -> usize;
+        pub fn wemsteky_worst_map(
+            layer: *const usize,
+            kernel: *const i16,
+            kernel_len: usize,
+            map: *mut i16,
+            map_len: usize,
         ) -> usize;
     }
 }
@@ -140,4 +147,8 @@ pub fn join(first: (&[usize; 16], &[i16]), second: (&[usize; 16], &[i16]), joine
         read(second.1),
         written(joined)
     )
+}
+
+pub fn worst_map(layer: &[usize; 16], kernel: &[i16], map: &mut [i16]) -> usize {
+    called!(wemsteky_worst_map(layer.as_ptr()), read(kernel), written(map))
 }

@@ -23,3 +23,4 @@ pub mod quick;
 pub mod random;
 pub mod rules;
 pub mod transform;
+pub mod worst;

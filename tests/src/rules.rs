@@ -141,6 +141,12 @@ fn first_broken(last: usize, call: &Call) -> usize {
     RULES[..=place(last)].iter().find(|(_, holds)| !holds(call)).map_or(0, |&(number, _)| number)
 }
 
+/// The number of the first broken rule among those with the numbers given, in the table's order, or 0.
+pub fn first_broken_of(numbers: &[usize], call: &Call) -> usize {
+    let rules = RULES.iter().filter(|(number, _)| numbers.contains(number));
+    rules.into_iter().find(|(_, holds)| !holds(call)).map_or(0, |&(number, _)| number)
+}
+
 /// What the planner returns.
 pub fn plan_number(layer: &Layer) -> usize {
     first_broken(LAST_OF_PLAN, &Call { layer: *layer, ..Call::default() })

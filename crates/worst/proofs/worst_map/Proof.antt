@@ -19,7 +19,8 @@ worst-code-requires c κs = search needs
 returns : tie.Need-returns
 returns c =
     let code : tie.After-worst-code = search in
-    (code .worst-code .ensures, sym (outcome-lent _ _ _ (λ e. c .if1 .taken (code .worst-code .ensures ∙ e))))
+    let broken : tie.Then1 = search in
+    (code .worst-code .ensures, sym (outcome-lent _ _ _ (λ e. broken .if1 .taken (code .worst-code .ensures ∙ e))))
 
 -- no rule is broken
 accepted : (c : tie.Else1) → let a = c .before .before .args in Shown (a .layer) (now (a .kernel)) × (length (now (a .map)) ≡ mapCount (a .layer))
