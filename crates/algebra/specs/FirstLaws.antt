@@ -97,8 +97,8 @@ module _ (A B : ℕ) (row column : ℕ → Bool) where
           absurd (omega (arith, div-add-mod' p B))
 
   -- where it is one of the places, some row and some column pass
-  pub both-some : firstWhere (A * B) both-pass < A * B → (firstWhere A row < A) × (firstWhere B column < B)
-  both-some l =
+  pub found-each : firstWhere (A * B) both-pass < A * B → (firstWhere A row < A) × (firstWhere B column < B)
+  found-each l =
       let p = firstWhere (A * B) both-pass in
       let (e, f) = both-true (row (p / B)) (column (p % B)) (first-passes (A * B) both-pass l) in
       let some : 0 < B = wide (ℕ-discrete B 0) in
@@ -111,14 +111,14 @@ module _ (A B : ℕ) (row column : ℕ → Bool) where
       wide (no d) = omega arith
 
   -- as tests
-  pub some-both : ltb (firstWhere A row) A && ltb (firstWhere B column) B ≡ ltb (firstWhere (A * B) both-pass) (A * B)
-  some-both = go (decLt (firstWhere A row) A) (decLt (firstWhere B column) B)
+  pub found-both : ltb (firstWhere A row) A && ltb (firstWhere B column) B ≡ ltb (firstWhere (A * B) both-pass) (A * B)
+  found-both = go (decLt (firstWhere A row) A) (decLt (firstWhere B column) B)
     where
       none : (firstWhere (A * B) both-pass < A * B → ⊥) → ltb (firstWhere (A * B) both-pass) (A * B) ≡ false
       none h = le-ltb (firstWhere (A * B) both-pass) (A * B) (omega arith)
 
       go : Dec (firstWhere A row < A) → Dec (firstWhere B column < B)
           → ltb (firstWhere A row) A && ltb (firstWhere B column) B ≡ ltb (firstWhere (A * B) both-pass) (A * B)
-      go (no h) d = rw (le-ltb (firstWhere A row) A (omega arith)) (sym (none (λ l. h (both-some l .0))))
-      go (yes l) (no h) = rw (lt-ltb _ _ l, le-ltb (firstWhere B column) B (omega arith)) (sym (none (λ l. h (both-some l .1))))
+      go (no h) d = rw (le-ltb (firstWhere A row) A (omega arith)) (sym (none (λ l. h (found-each l .0))))
+      go (yes l) (no h) = rw (lt-ltb _ _ l, le-ltb (firstWhere B column) B (omega arith)) (sym (none (λ l. h (found-each l .1))))
       go (yes l) (yes k) = rw (lt-ltb _ _ l, lt-ltb _ _ k, first-both l k) (sym (lt-ltb _ _ (digits-lt l k)))

@@ -65,22 +65,24 @@ module _ (f : ℕ → ℕ) where
   -- it is told by what it holds: the greatest number, and less at every place before
   first-greatest-is : (n k : ℕ) → k < n → f k ≡ greatest n f → ((i : ℕ) → i < k → f i < greatest n f) → firstGreatest n f ≡ k
   unfolding firstGreatest
-  first-greatest-is n k l e less = first-is n (stands n) k l (eq-eqb _ _ e) (λ i h. ne-eqb (f i) (greatest n f) (λ same. omega (arith, less i h)))
+  first-greatest-is n k l e less =
+      first-is n (stands n) k l (eq-eqb _ _ e) (λ i h. ne-eqb (f i) (greatest n f) (λ same. omega (arith, less i h)))
 
   most : (n : ℕ) → firstGreatest n f ≤ n
   unfolding firstGreatest
   most n = first-most n (stands n)
 
-  -- where it is one of n places, it does hold that
+  -- it holds the greatest number where it is one of n places
   holds : (n : ℕ) → firstGreatest n f < n → f (firstGreatest n f) ≡ greatest n f
   unfolding firstGreatest
   holds n below = eqb-true _ _ (first-passes n (stands n) below)
 
-  less-before : (n i : ℕ) → firstGreatest n f < n → i < firstGreatest n f → f i < greatest n f
+  -- at every place before it there is less
+  pub first-greatest-before : (n i : ℕ) → i < firstGreatest n f → f i < greatest n f
   unfolding firstGreatest
-  less-before n i below l =
+  first-greatest-before n i l =
       let other = eqb-false (f i) (greatest n f) (first-before n (stands n) i l) in
-      omega (arith, greatest-at n f i (omega arith), other)
+      omega (arith, greatest-at n f i (omega (arith, first-most n (stands n))), other)
 
   -- one number more, greater than all before: the first place is its own
   pub first-greatest-next : (n : ℕ) → greatest n f < f n → (greatest (n + 1) f ≡ f n) × (firstGreatest (n + 1) f ≡ n)
@@ -92,11 +94,16 @@ module _ (f : ℕ → ℕ) where
   stays : (n : ℕ) → (0 < n → firstGreatest n f < n) → f n ≤ greatest n f
       → (greatest (n + 1) f ≡ greatest n f) × (firstGreatest (n + 1) f ≡ firstGreatest n f)
   unfolding firstGreatest firstWhere
-  stays zero below within = let is : greatest 1 f ≡ f 0 = greatest-one f in (omega (arith, greatest-none f), first-greatest-is 1 0 (omega arith) (sym is) (λ i l. absurd (omega arith)))
+  stays zero below within =
+      let is : greatest 1 f ≡ f 0 = greatest-one f in
+      (omega (arith, greatest-none f), first-greatest-is 1 0 (omega arith) (sym is) (λ i l. absurd (omega arith)))
   stays (suc n) below within =
       let is : greatest (suc n + 1) f ≡ greatest (suc n) f = omega (arith, greatest-next (suc n) f) in
-      let here = below (omega arith) in
-      (is, first-greatest-is (suc n + 1) (firstGreatest (suc n) f) (omega arith) (holds (suc n) here ∙ sym is) (λ i l. omega (arith, is, less-before (suc n) i here l)))
+      let here = below (omega arith) in (
+        is,
+        first-greatest-is (suc n + 1) (firstGreatest (suc n) f) (omega arith) (holds (suc n) here ∙ sym is)
+            (λ i l. omega (arith, is, first-greatest-before (suc n) i l)),
+      )
 
   -- where there are numbers, it is one of their places
   pub first-greatest-below : (n : ℕ) → 0 < n → firstGreatest n f < n
@@ -110,9 +117,5 @@ module _ (f : ℕ → ℕ) where
   pub first-greatest-stays : (n : ℕ) → f n ≤ greatest n f → (greatest (n + 1) f ≡ greatest n f) × (firstGreatest (n + 1) f ≡ firstGreatest n f)
   first-greatest-stays n within = stays n (first-greatest-below n) within
 
-  -- it holds the greatest number, and at every place before it there is less
   pub first-greatest-at : (n : ℕ) → 0 < n → f (firstGreatest n f) ≡ greatest n f
   first-greatest-at n some = holds n (first-greatest-below n some)
-
-  pub first-greatest-before : (n i : ℕ) → 0 < n → i < firstGreatest n f → f i < greatest n f
-  first-greatest-before n i some l = less-before n i (first-greatest-below n some) l

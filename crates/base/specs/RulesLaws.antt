@@ -3,6 +3,7 @@
 use mathlib.Core.Path.{_≡_, refl, sym, ap, ap₂, _∙_}
 use mathlib.Core.Bool.{Bool, true, false, cond, _&&_}
 use mathlib.Core.List.{List, [], _∷_, _++_}
+use mathlib.Core.Logic.{_⊎_, ⊎-elim}
 use Prim.Native.Nat.{ℕ, zero, suc, _<_, _≤_}
 use native.Mathlib.Omega.{arith}
 use lib.Dec.{T, eqb, leb, ltb, ltb→lt}
@@ -139,17 +140,21 @@ both-accept rules more n e = by-first (firstBroken rules) refl
     by-first zero f = (sym f, sym (second-answers rules more n (sym f)) ∙ e)
     by-first (suc code) f = absurd (omega (arith, first-answers rules more f (λ z. omega arith), e))
 
--- a code that is no 0 is that of a rule before which all hold
-pub before-holds : (number : ℕ) → (number ≡ 0 → ⊥) → (rules : List Rule) → firstBroken rules ≡ number → firstBroken (rulesBefore number rules) ≡ 0
-before-holds number some [] e = refl
-before-holds number some (rule other holds ∷ rules) e = by-number (eqb other number) refl holds e (before-holds number some rules)
+-- where the answer is 0 or a rule's number, every rule before the first with that number holds
+pub before-holds : (number : ℕ) (rules : List Rule) → T (numbered rules) → (firstBroken rules ≡ 0) ⊎ (firstBroken rules ≡ number)
+    → firstBroken (rulesBefore number rules) ≡ 0
+before-holds number [] n e = refl
+before-holds number (rule other holds ∷ rules) n e =
+    let (above, more) = and-yes (ltb 0 other) (numbered rules) n in
+    by-number (eqb other number) refl (ltb→lt 0 other above) holds e (before-holds number rules more)
   where
-    by-number : (same : Bool) → eqb other number ≡ same → (holds : Bool) → cond holds (firstBroken rules) other ≡ number
-        → (firstBroken rules ≡ number → firstBroken (rulesBefore number rules) ≡ 0)
+    by-number : (same : Bool) → eqb other number ≡ same → 0 < other → (holds : Bool)
+        → (cond holds (firstBroken rules) other ≡ 0) ⊎ (cond holds (firstBroken rules) other ≡ number)
+        → ((firstBroken rules ≡ 0) ⊎ (firstBroken rules ≡ number) → firstBroken (rulesBefore number rules) ≡ 0)
         → firstBroken (cond same [] (rule other holds ∷ rulesBefore number rules)) ≡ 0
-    by-number true t holds e later = refl
-    by-number false t true e later = later e
-    by-number false t false e later = absurd (eqb-false other number t e)
+    by-number true t above holds e later = refl
+    by-number false t above true e later = later e
+    by-number false t above false e later = absurd (⊎-elim (λ z. omega arith) (eqb-false other number t) e)
 
 -- ---- both tests of `inside`
 

@@ -17,8 +17,8 @@ abbrev pub windowRule : Layer → Rule
 windowRule l = rule 29 (isConv l && hasWhole l)
 
 -- 10 of the map to be written, 11 and 14. `room` is how many values it has
-abbrev pub lentRules : Layer → (kernel : List ℤ) (room : ℕ) → List Rule
-lentRules l kernel room = mapLengthRule l room ∷ kernelLengthRule l kernel ∷ peakRule l ∷ []
+abbrev pub lengthRules : Layer → (kernel : List ℤ) (room : ℕ) → List Rule
+lengthRules l kernel room = mapLengthRule l room ∷ kernelLengthRule l kernel ∷ peakRule l ∷ []
 
 -- 24 and 29
 abbrev pub shownRules : Layer → (kernel : List ℤ) → List Rule
@@ -28,7 +28,7 @@ shownRules l kernel = blankRule l kernel ∷ windowRule l ∷ []
 
 -- 1 to 9 with 23, of a layer in either field, then 10, 11, 14, 24 and 29
 abbrev pub worstRules : Layer → (kernel : List ℤ) (room : ℕ) → List Rule
-worstRules l kernel room = shapeRules 5 l ++ outputRules l ++ lentRules l kernel room ++ shownRules l kernel
+worstRules l kernel room = shapeRules 5 l ++ outputRules l ++ lengthRules l kernel room ++ shownRules l kernel
 
 unfoldable pub worstCode : Layer → (kernel : List ℤ) (room : ℕ) → ℕ
 worstCode l kernel room = firstBroken (worstRules l kernel room)

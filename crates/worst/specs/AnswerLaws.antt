@@ -1,5 +1,5 @@
 -- What the answer 0 says of a layer and its kernel, that 29 is answered exactly where there is no window to show, and the theorem of an accepted call.
-use mathlib.Core.Path.{_≡_, refl, _∙_}
+use mathlib.Core.Path.{_≡_}
 use mathlib.Core.Bool.{true, _&&_}
 use mathlib.Core.List.{List, _++_}
 use mathlib.Core.Logic.{_↔_}
@@ -12,14 +12,13 @@ use Rattle.base.specs.RulesLaws.{none-broken, both-accept, inside-high, outcome
 use Rattle.layer.specs.declared.shape.Layer.{Layer}
 use Rattle.layer.specs.Shape.{isConv, mapCount, kernelCount}
 use Rattle.load.specs.LoadLaws.{weighted}
-use Rattle.checks.specs.Engine.{tileEngine}
 use Rattle.checks.specs.EngineLaws.{tile-lawful}
 use Rattle.checks.specs.Checks.{shapeRules, outputRules, planCode}
 use Rattle.checks.specs.ChecksLaws.{planned}
 use Rattle.worst.specs.Window.{hasWhole, wholeRow, wholeColumn, Windowed}
 use Rattle.worst.specs.WindowLaws.{first-window, whole-has}
 use Rattle.worst.specs.Worst.{worstMap}
-use Rattle.worst.specs.Answer.{lentRules, shownRules, worstCode, worstLeft}
+use Rattle.worst.specs.Answer.{lengthRules, shownRules, worstCode, worstLeft}
 use Rattle.worst.specs.Shown.{Shown}
 use Rattle.worst.specs.Reached.{Reached}
 use Rattle.worst.specs.ReachedLaws.{reached}
@@ -40,7 +39,7 @@ windowed l = (to, from)
 pub shown : (l : Layer) (kernel : List ℤ) (room : ℕ) → worstCode l kernel room ≡ 0 → Shown l kernel × (room ≡ mapCount l)
 unfolding planCode worstCode
 shown l kernel room e =
-    let rules = lentRules l kernel room ++ shownRules l kernel in
+    let rules = lengthRules l kernel room ++ shownRules l kernel in
     let (plan, rest) = both-accept (shapeRules 5 l ++ outputRules l) rules tt e in
     let hold = none-broken rules tt rest in
     let p = planned tile-lawful l plan in

@@ -4,7 +4,7 @@
 use mathlib.Core.Path.{_≡_, refl, sym, ap, _∙_}
 use mathlib.Core.Bool.{Bool, true, false, cond}
 use mathlib.Core.List.{List, [], _∷_, _++_}
-use mathlib.Core.Logic.{_↔_}
+use mathlib.Core.Logic.{_↔_, _⊎_, inr}
 use Prim.Native.Nat.{ℕ, _*_, _<_, _≤_}
 use native.Mathlib.Decide.{decLt}
 use native.Mathlib.Nat.{le-trans, div-lt-iff-lt-mul, mul-le-mul}
@@ -28,8 +28,8 @@ use Rattle.checks.specs.ChecksLaws.{planned, tile-plans}
 use Rattle.worst.specs.Window.{Windowed}
 use Rattle.worst.specs.WindowLaws.{whole-has}
 use Rattle.worst.specs.Worst.{greatestLoad, worstPlace, worstMap}
-use Rattle.worst.specs.Answer.{lentRules, shownRules, worstCode, worstLeft}
-use Rattle.worst.specs.Reached.{Reached, Exceeds}
+use Rattle.worst.specs.Answer.{lengthRules, shownRules, worstCode, worstLeft}
+use Rattle.worst.specs.Reached.{Exceeds}
 use Rattle.worst.specs.ReachedLaws.{reached}
 use Rattle.worst.specs.AnswerLaws.{windowed, worst-accepted}
 
@@ -114,23 +114,28 @@ module _ {engine : Engine} (lawful : Lawful engine) (l : Layer) (map kernel : Li
     range-law window = (to window, exceeding-refused)
 
     -- `worst_map` accepts the layer, the kernel and a map of this length
-    pub earlier-shown : Windowed l → worstCode l kernel (length map) ≡ 0
+    earlier-shown : Windowed l → worstCode l kernel (length map) ≡ 0
     unfolding planCode worstCode
     earlier-shown window =
         let hold = none-broken (rulesBefore 16 rules) tt passed in
         let is-windowed = windowed l .1 window in
-        let more = lentRules l kernel (length map) ++ shownRules l kernel in
+        let more = lengthRules l kernel (length map) ++ shownRules l kernel in
         second-answers (shapeRules 5 l ++ outputRules l) more tt (tile-plans lawful l accepted) ∙ all-hold more search
 
-  -- a run that is answered 16 has passed every earlier check
-  pub refused-passes : runCode engine l map kernel output scratch ≡ 16 → earlierCode engine l map kernel output scratch ≡ 0
+  -- a run that is accepted or answered 16 has passed every earlier check
+  passes : (runCode engine l map kernel output scratch ≡ 0) ⊎ (runCode engine l map kernel output scratch ≡ 16)
+      → earlierCode engine l map kernel output scratch ≡ 0
   unfolding runCode
-  refused-passes refused = before-holds 16 (λ e. omega arith) rules refused
+  passes = before-holds 16 rules tt
 
-  -- `worst_map` then accepts the layer too, and what it leaves in a map of that length has an output larger in size than the limit
+  -- `worst_map` accepts the layer and the kernel of such a run, and a map of its length
+  pub run-shown : Windowed l → (runCode engine l map kernel output scratch ≡ 0) ⊎ (runCode engine l map kernel output scratch ≡ 16)
+      → worstCode l kernel (length map) ≡ 0
+  run-shown window answered = earlier-shown (passes answered) window
+
+  -- where the answer was 16, what it leaves has an output larger in size than the limit
   pub refusal-shown : Windowed l → runCode engine l map kernel output scratch ≡ 16
-      → (worstCode l kernel (length map) ≡ 0) × (loadLimit (l .field) < natAbs (directAt l (worstLeft l kernel map) kernel (worstPlace l kernel)))
+      → loadLimit (l .field) < natAbs (directAt l (worstLeft l kernel map) kernel (worstPlace l kernel))
   refusal-shown window refused =
-      let passed = refused-passes refused in
-      let shown = earlier-shown passed window in
-      (shown, rw (worst-accepted l kernel map shown .equals) (refused-above passed refused))
+      let shown = run-shown window (inr refused) in
+      rw (worst-accepted l kernel map shown .equals) (refused-above (passes (inr refused)) refused)

@@ -3,10 +3,9 @@
 use mathlib.Core.Path.{_≡_, ap, _∙_}
 use mathlib.Core.Bool.{true}
 use mathlib.Core.List.{List}
-use Prim.Native.Nat.{ℕ, _+_, _*_, _/_, _%_, _<_, _≤_}
+use Prim.Native.Nat.{_*_, _<_}
 use native.Mathlib.Nat.{div-add-mod'}
 use native.Mathlib.Omega.{arith}
-use borrow.Author.Tests.{ltb-true}
 use lib.Arith.{digits-lt, digits-div, digits-mod}
 use lib.IntN.{ℤ, pos}
 use Rattle.algebra.specs.EveryLaws.{both-true}
@@ -16,7 +15,7 @@ use Rattle.layer.specs.Shape.{outputCount}
 use Rattle.layer.specs.Direct.{directAt}
 use Rattle.layer.specs.Planned.{InRange}
 use Rattle.load.specs.Load.{load}
-use Rattle.worst.specs.Window.{insideAt, firstWhole, hasWhole, wholeRow, wholeColumn}
+use Rattle.worst.specs.Window.{firstWhole, hasWhole}
 use Rattle.worst.specs.Worst.{greatestLoad, worstChannel, worstPlace, worstOutput, worstMap}
 use Rattle.worst.specs.Reached.{Reached}
 use Rattle.worst.specs.WindowLaws.{first-window, first-below, no-earlier}
@@ -47,7 +46,7 @@ module _ (l : Layer) (r : InRange l) (kernel : List ℤ) (conv-kind : l .kind �
     equals = equals;
     channel-load = channel-load;
     most = greatest-at (l .outputs) (load l kernel);
-    channel-first = λ i h. first-greatest-before (load l kernel) (l .outputs) i (r .outputs-low) h;
+    channel-first = first-greatest-before (load l kernel) (l .outputs);
     window = first-window l has;
     window-first = λ i j w. omega (arith, no-earlier l w, div-add-mod' (firstWhole l) (l .columns));
   }

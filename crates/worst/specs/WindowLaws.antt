@@ -4,18 +4,18 @@
 use mathlib.Core.Path.{_≡_, refl, sym, ap, _∙_}
 use mathlib.Core.Bool.{Bool, true, false, _&&_}
 use Prim.Native.Nat.{ℕ, _+_, _*_, _-_, _/_, _%_, _<_, _≤_}
-use native.Mathlib.Nat.{div-add-mod', div-lt-iff-lt-mul, mod-lt, mul-le-mul-right}
+use native.Mathlib.Nat.{mul-le-mul, mul-le-mul-right}
 use native.Mathlib.Omega.{arith}
 use borrow.Author.Tests.{ltb-true, lt-ltb, leb-true, le-leb}
 use lib.Arith.{digits-lt, digits-div, digits-mod}
 use lib.Dec.{leb, ltb}
 use Rattle.algebra.specs.EveryLaws.{both-true, every-at, every-from}
-use Rattle.algebra.specs.First.{firstWhere}
-use Rattle.algebra.specs.FirstLaws.{first-is, first-none, first-passes, first-least, first-both, both-some, some-both}
+use Rattle.algebra.specs.FirstLaws.{first-is, first-none, first-passes, first-least, first-both, found-each, found-both}
 use Rattle.base.specs.Number.{ceilingDiv}
 use Rattle.base.specs.NumberLaws.{ceiling-le, le-ceiling}
 use Rattle.layer.specs.declared.shape.Layer.{Layer}
 use Rattle.layer.specs.Direct.{within}
+use Rattle.layer.specs.Planned.{InRange}
 use Rattle.worst.specs.Window.{insideAt, firstInside, isWhole, firstWhole, hasWhole, wholeRow, wholeColumn, Whole}
 
 -- ---- one window in one direction
@@ -41,6 +41,10 @@ module _ (l : Layer) (extent e : ℕ) where
   unfolding insideAt
   inside-from begin end = every-from (l .side) _ (λ a h.
       rw (le-leb (l .padding) (e * l .stride + a) (omega arith), lt-ltb (e * l .stride + a - l .padding) extent (omega arith)))
+
+-- no window begins further on than this
+pub begin-high : (l : Layer) → InRange l → (e : ℕ) → e ≤ 2058 → e * l .stride ≤ 8232
+begin-high l r e h = mul-le-mul {n₂ = 2058} {m₂ = 4} h (r .stride-high)
 
 -- ---- the first window in one direction
 
@@ -98,7 +102,7 @@ module _ (l : Layer) where
 
   pub has-whole : hasWhole l ≡ ltb (firstInside l (l .height) (l .top) (l .rows)) (l .rows) && ltb (firstInside l (l .width) (l .left) (l .columns)) (l .columns)
   unfolding hasWhole firstWhole firstInside
-  has-whole = sym (some-both (l .rows) (l .columns) rowInside columnInside)
+  has-whole = sym (found-both (l .rows) (l .columns) rowInside columnInside)
 
   module _ (has : hasWhole l ≡ true) where
     pub first-below : firstWhole l < l .rows * l .columns
@@ -107,7 +111,7 @@ module _ (l : Layer) where
 
     both : (firstInside l (l .height) (l .top) (l .rows) < l .rows) × (firstInside l (l .width) (l .left) (l .columns) < l .columns)
     unfolding hasWhole firstWhole firstInside
-    both = both-some (l .rows) (l .columns) rowInside columnInside first-below
+    both = found-each (l .rows) (l .columns) rowInside columnInside first-below
 
     first-is-both : firstWhole l ≡ firstInside l (l .height) (l .top) (l .rows) * l .columns + firstInside l (l .width) (l .left) (l .columns)
     unfolding firstWhole firstInside

@@ -10,7 +10,7 @@ use lib.Arith.{digits-lt}
 use lib.Dec.{T}
 use lib.IntN.{ℤ, pos, negsuc, negℤ, natAbs, _*ℤ_}
 use lib.Signed.{ltZ}
-use lib.ListN.{length, getD}
+use lib.ListN.{length}
 use Rattle.algebra.specs.Sum.{sum, sumZ}
 use Rattle.algebra.specs.SumLaws.{naturals, integers, sum-map, sum-mul}
 use Rattle.algebra.specs.Planes.{cell}
@@ -77,28 +77,29 @@ shifted-cell A B values k p u q v row rowEnd column columnEnd =
 
 -- ---- the weight that meets a place
 
+-- the output's window holds row i, column j of the map
+abbrev pub rowMet : Layer → Output → (i : ℕ) → Bool
+rowMet l o i = within (o .row * l .stride) (l .side) (i + l .padding)
+
+abbrev pub columnMet : Layer → Output → (j : ℕ) → Bool
+columnMet l o j = within (o .column * l .stride) (l .side) (j + l .padding)
+
 module _ (l : Layer) (kernel : List ℤ) (o : Output) (c i j : ℕ) where
-  abbrev pub rowMet : Bool
-  rowMet = within (o .row * l .stride) (l .side) (i + l .padding)
-
-  abbrev pub columnMet : Bool
-  columnMet = within (o .column * l .stride) (l .side) (j + l .padding)
-
-  pub weight-outside : rowMet && columnMet ≡ false → weightAt l kernel o c i j ≡ pos 0
+  pub weight-outside : rowMet l o i && columnMet l o j ≡ false → weightAt l kernel o c i j ≡ pos 0
   unfolding weightAt
-  weight-outside out = none rowMet columnMet _ out
+  weight-outside out = none (rowMet l o i) (columnMet l o j) _ out
     where
       none : (a b : Bool) (z : ℤ) → a && b ≡ false → when a (when b z) ≡ pos 0
       none true true z e = absurd (true≢false e)
       none true false z e = refl
       none false b z e = refl
 
-  pub weight-inside : l .kind ≡ 0 → rowMet && columnMet ≡ true
+  pub weight-inside : l .kind ≡ 0 → rowMet l o i && columnMet l o j ≡ true
       → weightAt l kernel o c i j
-      ≡ getD kernel (((o .channel * l .inputs + c) * l .side + (i + l .padding - o .row * l .stride)) * l .side + (j + l .padding - o .column * l .stride)) (pos 0)
+      ≡ cell (l .side) (l .side) kernel (o .channel * l .inputs + c) (i + l .padding - o .row * l .stride) (j + l .padding - o .column * l .stride)
   unfolding weightAt
   weight-inside conv-kind met =
-      let (row, column) = both-true rowMet columnMet met in
+      let (row, column) = both-true (rowMet l o i) (columnMet l o j) met in
       rw (eq-eqb (l .kind) 0 conv-kind, row, column)
 
 -- ---- the map

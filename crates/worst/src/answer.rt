@@ -9,12 +9,12 @@ ghost use mathlib.Core.Path.{_≡_};
 ghost use Rattle.base.specs.Rules.{firstBroken};
 ghost use Rattle.layer.specs.Planned.{InRange, Planned};
 ghost use Rattle.load.specs.Weights.{Weighted};
-ghost use Rattle.worst.specs.Answer.{lentRules, shownRules, worstCode};
+ghost use Rattle.worst.specs.Answer.{lengthRules, shownRules, worstCode};
 
 // The first of 10, 11 and 14 that is broken, or 0. `room` is the length of the map to be written.
-fn lent_code(layer: Layer, kernel: &[i16], room: usize) -> usize
+fn length_code(layer: Layer, kernel: &[i16], room: usize) -> usize
     requires { ⌜ InRange layer ⌝ }
-    ensures { λ r. ⌜ r ≡ firstBroken (lentRules layer (now (kernel .entry)) room) ⌝ }
+    ensures { λ r. ⌜ r ≡ firstBroken (lengthRules layer (now (kernel .entry)) room) ⌝ }
 {
     let code = rules::next(0, 10, room == sizes::map_count(layer));
     let code = rules::next(code, 11, kernel.len() == sizes::kernel_count(layer));
@@ -40,9 +40,9 @@ pub(crate) fn worst_code(layer: Layer, kernel: &[i16], room: usize) -> usize
     if plan != 0 {
         return plan;
     }
-    let lent = lent_code(layer, kernel, room);
-    if lent != 0 {
-        return lent;
+    let length = length_code(layer, kernel, room);
+    if length != 0 {
+        return length;
     }
     shown_code(layer, kernel)
 }

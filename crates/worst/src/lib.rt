@@ -8,7 +8,7 @@ ghost use lib.ListN.{length};
 ghost use Rattle.worst.specs.Answer.{worstCode, worstLeft};
 
 mod answer;
-pub mod output;
+mod output;
 mod values;
 mod window;
 

@@ -1,4 +1,4 @@
-//! Instructions of `levels`, `noise`, `join` and of a job call of no tile, as valgrind counts them: those of a program that makes two
+//! Instructions of `levels`, `noise`, `join`, `worst_map` and of a job call of no tile, as valgrind counts them: those of a program that makes two
 //! calls less those of one that makes one, and so many for each value or pair of weights. Nothing is asserted of a count.
 
 use wemsteky_tests::random::Random;
@@ -10,16 +10,18 @@ const VALUES: usize = 1_000_000;
 /// The channels of a joined filter, in each place.
 const CHANNELS: usize = 16;
 
-/// A function with a figure: the shift of levels, the sides of two filters, or the place of a map value beyond the peak.
+/// A function with a figure: the shift of levels, the sides of two filters, the place of a map value beyond the peak, or
+/// the side of a kernel.
 #[derive(Clone, Copy)]
 enum Counted {
     Levels { shift: usize },
     Noise,
     Join { first: usize, second: usize },
     Job { beyond: Option<usize> },
+    WorstMap { side: usize },
 }
 
-const COUNTED: [Counted; 10] = [
+const COUNTED: [Counted; 12] = [
     Counted::Levels { shift: 0 },
     Counted::Levels { shift: 8 },
     Counted::Levels { shift: 31 },
@@ -30,6 +32,8 @@ const COUNTED: [Counted; 10] = [
     Counted::Job { beyond: None },
     Counted::Job { beyond: Some(0) },
     Counted::Job { beyond: Some(VALUES - 1) },
+    Counted::WorstMap { side: 1 },
+    Counted::WorstMap { side: 11 },
 ];
 
 impl Counted {
@@ -40,13 +44,14 @@ impl Counted {
             Self::Join { first, second } => format!("join, sides {first} and {second}"),
             Self::Job { beyond: None } => "job of no tile, no map value beyond the peak".to_string(),
             Self::Job { beyond: Some(place) } => format!("job of no tile, map value {place} beyond the peak"),
+            Self::WorstMap { side } => format!("worst map, side {side}"),
         }
     }
 
     /// Values, or pairs of weights that meet, each of which is multiplied twice.
     fn items(self) -> usize {
         match self {
-            Self::Levels { .. } | Self::Noise | Self::Job { .. } => VALUES,
+            Self::Levels { .. } | Self::Noise | Self::Job { .. } | Self::WorstMap { .. } => VALUES,
             Self::Join { first, second } => CHANNELS * CHANNELS * CHANNELS * (first * first) * (second * second),
         }
     }
@@ -57,6 +62,7 @@ impl Counted {
             Self::Noise => noise(calls),
             Self::Join { first, second } => join(first, second, calls),
             Self::Job { beyond } => job(beyond, calls),
+            Self::WorstMap { side } => worst_map(side, calls),
         }
     }
 }
@@ -93,6 +99,13 @@ fn job(beyond: Option<usize>, calls: usize) {
         let answer = engine::job(&layer, (0, 0), (&map, &[1; 4]), &mut output, &mut scratch);
         assert_eq!(answer.number, if beyond.is_some() { 15 } else { 0 });
     }
+}
+
+/// Four map channels of 500 by 500 to one output channel.
+fn worst_map(side: usize, calls: usize) {
+    let layer = [0, 4, 4, 1, 500, 500, side, 1, 0, 100, 0, 0, 1, 1, 0, 0];
+    let (kernel, mut map) = (vec![-1; 4 * side * side], vec![0; VALUES]);
+    (0..calls).for_each(|_| assert_eq!(engine::worst_map(&layer, &kernel, &mut map), 0));
 }
 
 fn counted(number: usize) -> Option<f64> {

@@ -1,5 +1,5 @@
 -- `judge_channel`: one sum of all sizes tells a blank channel, and the load is tested by it. It rests on the laws of blank channels.
-use mathlib.Core.Path.{_≡_, sym, ap, _∙_}
+use mathlib.Core.Path.{sym, ap, _∙_}
 use mathlib.Core.Bool.{not}
 use Prim.Native.Nat.{ℕ}
 use borrow.Author.Needs.{needs}

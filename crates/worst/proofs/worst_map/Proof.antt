@@ -1,6 +1,5 @@
 -- `worst_map` joins the checks, the output that the map is made for, and the map.
 use mathlib.Core.Path.{_≡_, sym, ap, _∙_}
-use Prim.Native.Nat.{ℕ}
 use borrow.Author.Needs.{needs}
 use denote.Ref.{now}
 use lib.ListN.{length}

@@ -1,8 +1,7 @@
 -- `worst_output`: the first whole window stands in the first row and the first column with a window inside the map.
 use mathlib.Core.Path.{_≡_, sym, _∙_}
-use Prim.Native.Nat.{ℕ, _+_, _<_, _≤_}
+use Prim.Native.Nat.{_+_, _<_}
 use native.Mathlib.Omega.{arith}
-use borrow.Author.Needs.{needs}
 use Rattle.worst.specs.WindowLaws.{whole-row, whole-column, first-window}
 use Rattle.worst.specs.Window.{wholeRow, wholeColumn}
 use Rattle.worst.specs.ShownLaws.{rows-cropped, columns-cropped}

@@ -1,6 +1,5 @@
 -- `is_within` makes the two tests of `within`, the second only where the difference is not below 0.
 use mathlib.Core.Path.{sym}
-use borrow.Author.Needs.{needs}
 use borrow.Author.Tests.{le-leb, lt-leb}
 use Rattle.worst.proofs.values.is_within.Statement.{statement}
 use Rattle.worst.proofs.values.is_within.Tie as tie

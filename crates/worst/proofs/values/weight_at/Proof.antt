@@ -5,13 +5,14 @@ use Prim.Native.Nat.{ℕ, _+_, _*_, _-_, _<_, _≤_}
 use native.Mathlib.Nat.{mul-le-mul}
 use native.Mathlib.Omega.{arith}
 use borrow.Author.Needs.{needs, sfits-of, scaled-fits}
-use lib.Arith.{digits-lt}
-use Rattle.layer.specs.declared.shape.Layer.{Layer}
-use Rattle.layer.specs.WindowLaws.{within-is}
 use denote.Ref.{now}
+use lib.Arith.{digits-lt}
 use lib.ListN.{length}
 use mir.Facts.{toZ-ofZ}
 use Rattle.algebra.specs.EveryLaws.{both-true}
+use Rattle.layer.specs.declared.shape.Layer.{Layer}
+use Rattle.layer.specs.WindowLaws.{within-is}
+use Rattle.worst.specs.WindowLaws.{begin-high}
 use Rattle.worst.specs.WorstLaws.{rowMet, columnMet, weight-outside, weight-inside}
 use Rattle.worst.proofs.values.weight_at.Statement.{statement}
 use Rattle.worst.proofs.values.weight_at.Tie as tie
@@ -38,9 +39,10 @@ module _ (s : tie.Start) where
   column = s .args .j + l .padding
 
   top-high : top ≤ 8232
-  top-high =
-      let p = s .pre .0 .shown .plan in
-      mul-le-mul {n₂ = 2058} {m₂ = 4} (omega (arith, s .pre .0 .row-in, p .full-height-high)) (p .shape .stride-high)
+  top-high = let p = s .pre .0 .shown .plan in begin-high l (p .shape) _ (omega (arith, s .pre .0 .row-in, p .full-height-high))
+
+  left-high : left ≤ 8232
+  left-high = let p = s .pre .0 .shown .plan in begin-high l (p .shape) _ (omega (arith, s .pre .0 .column-in, p .full-width-high))
 
   kernel-high : length (now (s .args .kernel)) ≤ 495616
   kernel-high =
@@ -49,15 +51,10 @@ module _ (s : tie.Start) where
       let square : l .side * l .side ≤ 121 = mul-le-mul {n₂ = 11} {m₂ = 11} (r .side-high) (r .side-high) in
       omega (arith, s .pre .0 .shown .weights .weights, mul-le-mul planes square)
 
-  left-high : left ≤ 8232
-  left-high =
-      let p = s .pre .0 .shown .plan in
-      mul-le-mul {n₂ = 2058} {m₂ = 4} (omega (arith, s .pre .0 .column-in, p .full-width-high)) (p .shape .stride-high)
-
 -- the two tests together
 met : (c : tie.After-is-within2) → let a = start (c .before) .args in
     c .before .is-within .result && c .is-within2 .result
-    ≡ rowMet (a .layer) (now (a .kernel)) (a .output) (a .c) (a .i) (a .j) && columnMet (a .layer) (now (a .kernel)) (a .output) (a .c) (a .i) (a .j)
+    ≡ rowMet (a .layer) (a .output) (a .i) && columnMet (a .layer) (a .output) (a .j)
 met c = ap₂ _&&_ (c .before .is-within .ensures) (c .is-within2 .ensures)
 
 -- the place lies in the window: its row and column there, and the weight's plane, line and place in the kernel

@@ -1,11 +1,10 @@
 -- `write_map` writes channel after channel, so that in the end every place of the map is written.
 use mathlib.Core.Path.{_≡_, _∙_}
-use Prim.Native.Nat.{ℕ, _+_, _*_, _-_, _≤_}
+use Prim.Native.Nat.{_+_, _*_, _-_, _≤_}
 use native.Mathlib.Omega.{arith}
 use borrow.Author.Needs.{needs}
 use denote.Ref.{now}
 use lib.IntN.{pos}
-use lib.ListN.{length}
 use Rattle.algebra.specs.Places.{Written, Run}
 use Rattle.algebra.specs.PlacesLaws.{table-of, written-nothing, written-further}
 use Rattle.layer.specs.Shape.{mapCount}

@@ -1,11 +1,10 @@
 -- `first_inside` tries the first row whose window does not begin before the map. It rests on the laws of the first window in one direction.
 use mathlib.Core.Path.{_≡_, sym, _∙_}
-use Prim.Native.Nat.{ℕ, _+_, _*_, _-_, _≤_, _<_}
-use native.Mathlib.Nat.{mul-le-mul}
+use Prim.Native.Nat.{_+_, _*_, _-_, _≤_}
 use native.Mathlib.Omega.{arith}
 use borrow.Author.Needs.{needs}
 use Rattle.base.specs.Number.{ceilingDiv}
-use Rattle.worst.specs.WindowLaws.{first-inside-found, first-inside-cut, first-inside-past}
+use Rattle.worst.specs.WindowLaws.{begin-high, first-inside-found, first-inside-cut, first-inside-past}
 use Rattle.worst.proofs.window.first_inside.Statement.{statement}
 use Rattle.worst.proofs.window.first_inside.Tie as tie
 
@@ -29,20 +28,20 @@ returns c =
     let r = s .pre .shape in
     sym (first-inside-cut (a .layer) (a .extent) (a .start) (a .count) (r .stride-low) (r .side-low) (rw (is-begun begun) at (c .if1 .taken)))
 
--- the row is one of the crop, so that its window begins below 2,058 times the stride
-begin-high : (c : tie.Else1) → let a = start (c .before) .args in (a .start + c .before .first-begun .result) * a .layer .stride ≤ 8232
-begin-high c =
+-- the row is one of the crop
+begins : (c : tie.Else1) → let a = start (c .before) .args in (a .start + c .before .first-begun .result) * a .layer .stride ≤ 8232
+begins c =
     let s = start (c .before) in
-    mul-le-mul {n₂ = 2058} {m₂ = 4} (omega (arith, s .pre .end-high, c .if1 .left)) (s .pre .shape .stride-high)
+    begin-high _ (s .pre .shape) _ (omega (arith, s .pre .end-high, c .if1 .left))
 
 add-end : tie.Need-add-end
 add-end c = search needs
 
 mul-end : tie.Need-mul-end
-mul-end c = let kept : tie.Else1 = search in omega (arith, begin-high kept)
+mul-end c = let kept : tie.Else1 = search in omega (arith, begins kept)
 
 add-end-2 : tie.Need-add-end-2
-add-end-2 c = let kept : tie.Else1 = search in omega (arith, begin-high kept, start (kept .before) .pre .shape .side-high)
+add-end-2 c = let kept : tie.Else1 = search in omega (arith, begins kept, start (kept .before) .pre .shape .side-high)
 
 add-if2 : tie.Need-add-if2
 add-if2 c = search needs

@@ -1,8 +1,6 @@
 -- `has_window`: some window is whole where some row and some column have theirs inside the map. It rests on the laws of whole windows.
-use mathlib.Core.Path.{_≡_, sym, ap, _∙_}
+use mathlib.Core.Path.{sym, ap}
 use mathlib.Core.Bool.{Bool, _&&_}
-use native.Mathlib.Omega.{arith}
-use borrow.Author.Needs.{needs}
 use Rattle.layer.specs.Shape.{isConv}
 use Rattle.worst.specs.WindowLaws.{has-whole}
 use Rattle.worst.specs.ShownLaws.{rows-cropped, columns-cropped}

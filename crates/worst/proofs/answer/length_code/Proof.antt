@@ -1,9 +1,9 @@
--- `lent_code` goes through `lentRules`, rule by rule.
+-- `length_code` goes through `lengthRules`, rule by rule.
 use borrow.Author.Needs.{needs}
 use Rattle.base.specs.RulesLaws.{in-order, rule-steps}
-use Rattle.worst.specs.Answer.{lentRules}
-use Rattle.worst.proofs.answer.lent_code.Statement.{statement}
-use Rattle.worst.proofs.answer.lent_code.Tie as tie
+use Rattle.worst.specs.Answer.{lengthRules}
+use Rattle.worst.proofs.answer.length_code.Statement.{statement}
+use Rattle.worst.proofs.answer.length_code.Tie as tie
 
 map-count-requires : tie.Need-map-count-requires
 map-count-requires c κs = search needs
@@ -27,10 +27,10 @@ returns : tie.Need-returns
 returns c =
     let start : tie.Start = search in
     let a = start .args in
-    in-order (lentRules (a .layer) (a .kernel .now) (a .room)) tt (search rule-steps depth 20)
+    in-order (lengthRules (a .layer) (a .kernel .now) (a .room)) tt (search rule-steps depth 20)
 
-pub lent-code-spec : {M : Type 1} → statement M
-lent-code-spec =
+pub length-code-spec : {M : Type 1} → statement M
+length-code-spec =
     tie.close
     (tie.spec
     map-count-requires
