@@ -1,5 +1,5 @@
 /* A transposed convolution planned, with a row and a column added too, run tile by tile, its outputs as levels, and a call that is refused with the
- * map value that it is refused for; a transform there and back; noise; two filters joined. */
+ * map value that it is refused for; a transform there and back; noise; two filters joined; a map to show for a range refusal. */
 #include <stdio.h>
 #include <string.h>
 
@@ -54,6 +54,21 @@ static void show_joined(void)
     printf(", refused %zu\n", wemsteky_join(first, mixed, 2, second, large, 4, joined, 8));
 }
 
+/* A sharpening layer whose load is above the limit of F_4, and the map that makes its output equal the load, run in F_5. */
+static void show_worst(void)
+{
+    const size_t small[16] = {0, 4, 1, 1, 4, 4, 3, 1, 0, 2000, 1, 1, 1, 1}, large[16] = {0, 5, 1, 1, 4, 4, 3, 1, 0, 2000, 1, 1, 1, 1};
+    const int16_t sharpen[9] = {0, -2, 0, -2, 9, -2, 0, -2, 0};
+    int16_t worst[16] = {0};
+    int32_t sum[1];
+    size_t figures[7], code = wemsteky_run(small, worst, 16, sharpen, 9, sum, 1, scratch, SCRATCH, figures);
+    printf("worst map %zu for %zu:", wemsteky_worst_map(small, sharpen, 9, worst, 16), code);
+    for (int i = 0; i < 16; i++) printf(" %d", worst[i]);
+    static uint64_t more[WEMSTEKY_SCRATCH_5];
+    code = wemsteky_run(large, worst, 16, sharpen, 9, sum, 1, more, WEMSTEKY_SCRATCH_5, figures);
+    printf(", output %d\n", code == 0 ? sum[0] : -1);
+}
+
 int main(void)
 {
     /* TCONV in F_4: one map channel of 24 by 24 to two channels of 50 by 50, K 4, S 2, P 0, peak 100, not cropped; then with a row and a column
@@ -96,5 +111,6 @@ int main(void)
 
     show_noise(0);
     show_joined();
+    show_worst();
     return 0;
 }

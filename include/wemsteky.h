@@ -40,13 +40,13 @@
  * peak times the sum of the sizes of the weights that one output can meet, over all map channels. In CONV an output can meet all K by K weights.
  * In TCONV with stride S it meets only weights whose rows leave the same remainder by S, and whose columns do; of these S by S groups the one with
  * the greatest sum counts. The limit is 32,768 in field 4 and 2,147,483,647 in field 5. Where 16 comes up: use field 5, or smaller weights, or a
- * lower peak where the map's values allow it. Where both fields accept a layer, field 4 needs a quarter of the scratch; docs/PERFORMANCE.md says
- * which is quicker.
+ * lower peak where the map's values allow it; wemsteky_worst_map writes a map that 16 guards against. Where both fields accept a layer, field 4
+ * needs a quarter of the scratch; docs/PERFORMANCE.md says which is quicker.
  *
  * TILES are counted by output channel, then tile row, then tile column; each covers N - K + 1 rows and columns of the stride-1 grid.
  *
  * ANSWERS. Every function takes any numbers, lengths and values. It returns 0, or the number of the first check that fails, in this order; a
- * refused call changes no output, scratch, words, levels or joined kernel.
+ * refused call changes no output, scratch, words, levels, joined kernel or map to be written.
  *
  *   1 kind is not 0 or 1                  11 kernel length is not M C K K
  *   2 field is not 4 or 5                 12 output length is not M h w
@@ -64,16 +64,17 @@
  *  10 map length is not C H W                the joined one too, not as the figures say, or the first layer's M not the second's C
  *                                         27 the joined side above 11
  *                                         28 some joined weight not within 16 signed bits
+ *                                         29 the layer is TCONV, or no cropped output has its whole window inside the map
  *
  * With 15 and 25, wemsteky_run and wemsteky_job tell which value it is: the first one beyond the peak in stored order, that is by channel, then row,
  * then column, each counted from 0, and its side, 1 above the peak, 2 below its negative. -32,768 is below the negative of every peak.
  *
  * WHAT THE CALLER KEEPS, which nothing checks: each pointer points to as many elements as its length says, also where that is 0, so no pointer is
- * null; a buffer that a call writes (output, scratch, figures, words, levels, map of wemsteky_noise, joined) overlaps no other buffer of the call;
- * nobody else writes a buffer of a call while it runs. size_t has 64 bits.
+ * null; a buffer that a call writes (output, scratch, figures, words, levels, map of wemsteky_noise and of wemsteky_worst_map, joined) overlaps no
+ * other buffer of the call; nobody else writes a buffer of a call while it runs. size_t has 64 bits.
  *
- * The functions allocate nothing, have no globals and hold no locks: any number of calls may run at once on buffers of their own. Runs used 2,752
- * bytes of stack when that was measured, a job call 2,480, the others less (tests/stack.c prints it).
+ * The functions allocate nothing, have no globals and hold no locks: any number of calls may run at once on buffers of their own. Runs used 2,896
+ * bytes of stack when that was measured, a job call 2,624, the others less (tests/stack.c prints it).
  */
 #ifndef WEMSTEKY_H
 #define WEMSTEKY_H
@@ -81,7 +82,7 @@
 #include <stddef.h>
 #include <stdint.h>
 
-#define WEMSTEKY_VERSION 0x000400 /* major, minor and patch, a byte each */
+#define WEMSTEKY_VERSION 0x000500 /* major, minor and patch, a byte each */
 
 /* The words of scratch, 3 N N, in field 4 and in field 5. Scratch may be longer. */
 #define WEMSTEKY_SCRATCH_4 3072
@@ -141,6 +142,12 @@ WEMSTEKY_MUST_USE uint32_t wemsteky_noise(uint32_t seed, int16_t *map, size_t ma
  * beside are not looked at. */
 WEMSTEKY_MUST_USE size_t wemsteky_join(const size_t first[16], const int16_t *first_kernel, size_t first_len, const size_t second[16],
                                        const int16_t *second_kernel, size_t second_len, int16_t *joined, size_t joined_len);
+
+/* Checks 1 to 11, 14, 23, 24 and 29, not the load: for a CONV layer, accepted or refused by 16, the map within the peak that makes one output equal
+ * the greatest load. That output is the first one, by row, then column of the crop, whose whole K by K window lies inside the map, in the first
+ * output channel with that load. In its window the value that meets a weight is the peak where the weight is above 0, the peak's negative where it
+ * is below, 0 where it is 0; every other value is 0. */
+WEMSTEKY_MUST_USE size_t wemsteky_worst_map(const size_t layer[16], const int16_t *kernel, size_t kernel_len, int16_t *map, size_t map_len);
 
 #ifdef __cplusplus
 }

@@ -77,6 +77,14 @@ static void *join(void *with)
     return with;
 }
 
+static void *worst_map(void *with)
+{
+    const size_t *layer = with;
+    for (size_t i = 0; i < sizeof kernel / sizeof *kernel; i++) kernel[i] = -1;
+    answer = wemsteky_worst_map(layer, kernel, layer[3] * layer[6] * layer[6], map, layer[4] * layer[5]);
+    return NULL;
+}
+
 /* The bytes of a painted stack that a routine touches. */
 static size_t touched(void *(*routine)(void *), const void *with)
 {
@@ -117,5 +125,6 @@ int main(void)
     show("wemsteky_levels", levels, NULL);
     show("wemsteky_noise", noise, NULL);
     show("wemsteky_join", join, NULL);
+    show("wemsteky_worst_map", worst_map, conv[0]);
     return 0;
 }

@@ -4,6 +4,7 @@ pub mod Worst
 pub mod Answer
 pub mod Shown
 pub mod Reached
+pub mod Exceeds
 -- laws
 pub mod WindowLaws
 pub mod WorstLaws

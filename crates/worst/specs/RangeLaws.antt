@@ -13,7 +13,7 @@ use borrow.Author.Tests.{eqb-true}
 use lib.IntN.{ℤ, natAbs}
 use lib.ListN.{length}
 use Rattle.algebra.specs.GreatestLaws.{greatest-at, first-greatest-below, first-greatest-at}
-use Rattle.base.specs.Rules.{Rule, firstBroken, rulesBefore}
+use Rattle.base.specs.Rules.{Rule, rulesBefore}
 use Rattle.base.specs.RulesLaws.{none-broken, all-hold, both-accept, second-answers, before-holds}
 use Rattle.layer.specs.declared.shape.Layer.{Layer}
 use Rattle.layer.specs.Shape.{mapCount, outputCount, channelOf}
@@ -29,13 +29,9 @@ use Rattle.worst.specs.Window.{Windowed}
 use Rattle.worst.specs.WindowLaws.{whole-has}
 use Rattle.worst.specs.Worst.{greatestLoad, worstPlace, worstMap}
 use Rattle.worst.specs.Answer.{lengthRules, shownRules, worstCode, worstLeft}
-use Rattle.worst.specs.Reached.{Exceeds}
+use Rattle.worst.specs.Exceeds.{earlierCode, Exceeds}
 use Rattle.worst.specs.ReachedLaws.{reached}
 use Rattle.worst.specs.AnswerLaws.{windowed, worst-accepted}
-
--- the answer of a run to the checks before 16, which are those of 1 to 15 with 23, 25 and 24
-abbrev pub earlierCode : Engine → Layer → (map kernel : List ℤ) → (output scratch : ℕ) → ℕ
-earlierCode engine l map kernel output scratch = firstBroken (rulesBefore 16 (runRules engine l map kernel output scratch))
 
 -- no map within the peak has a larger output than the greatest load, in either kind of layer
 pub output-most : (l : Layer) (map kernel : List ℤ) → Planned l → withinPeak (l .peak) map ≡ true

@@ -1,15 +1,14 @@
--- 02, E13, in the request's words: what is to hold of the map that an accepted call leaves; and that some map has an output larger in size than the
--- limit. The laws are in `ReachedLaws` and `RangeLaws`.
+-- 02, E13, in the request's words: what is to hold of the map that an accepted call leaves. The theorem is in `ReachedLaws`.
 use mathlib.Core.Path.{_≡_}
 use mathlib.Core.Bool.{true}
 use mathlib.Core.List.{List}
 use Prim.Native.Nat.{ℕ, _+_, _*_, _<_, _≤_}
-use lib.IntN.{ℤ, pos, natAbs}
+use lib.IntN.{ℤ, pos}
 use lib.ListN.{length}
 use Rattle.layer.specs.declared.shape.Layer.{Layer}
 use Rattle.layer.specs.Shape.{mapCount, outputCount}
 use Rattle.layer.specs.Direct.{directAt}
-use Rattle.load.specs.Load.{load, loadLimit, withinPeak}
+use Rattle.load.specs.Load.{load, withinPeak}
 use Rattle.worst.specs.Window.{Whole, wholeRow, wholeColumn}
 use Rattle.worst.specs.Worst.{greatestLoad, worstChannel, worstPlace}
 
@@ -27,12 +26,3 @@ pub record Reached (l : Layer) (kernel map : List ℤ) : Type 0 where
   -- its window lies whole inside the map, and no earlier one in output order does
   pub window : Whole l (wholeRow l) (wholeColumn l)
   pub window-first : (i j : ℕ) → Whole l i j → wholeRow l * l .columns + wholeColumn l ≤ i * l .columns + j
-
--- some map of this length within the peak has a cropped output larger in size than the limit
-pub record Exceeds (l : Layer) (kernel : List ℤ) (count : ℕ) : Type 0 where
-  pub map : List ℤ
-  pub size : length map ≡ count
-  pub bounded : withinPeak (l .peak) map ≡ true
-  pub place : ℕ
-  pub kept : place < outputCount l
-  pub larger : loadLimit (l .field) < natAbs (directAt l map kernel place)
