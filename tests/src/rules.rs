@@ -143,8 +143,8 @@ fn first_broken(last: usize, call: &Call) -> usize {
 
 /// The number of the first broken rule among those with the numbers given, in the table's order, or 0.
 pub fn first_broken_of(numbers: &[usize], call: &Call) -> usize {
-    let rules = RULES.iter().filter(|(number, _)| numbers.contains(number));
-    rules.into_iter().find(|(_, holds)| !holds(call)).map_or(0, |&(number, _)| number)
+    let broken = |&&(number, holds): &&Rule| numbers.contains(&number) && !holds(call);
+    RULES.iter().find(broken).map_or(0, |&(number, _)| number)
 }
 
 /// What the planner returns.

@@ -1,12 +1,13 @@
--- What the rules of `worst_map` give of a layer and its kernel, and what the code asks of the output that a map is made for.
+-- What the rules of `worst_map` give of a layer and its kernel, and what the code asks of a crop in one direction and of the output that a map is made
+-- for.
 use mathlib.Core.Path.{_≡_}
 use mathlib.Core.Bool.{true}
 use mathlib.Core.List.{List}
-use Prim.Native.Nat.{_<_}
+use Prim.Native.Nat.{ℕ, _+_, _<_, _≤_}
 use lib.IntN.{ℤ}
 use Rattle.layer.specs.declared.shape.Layer.{Layer}
 use Rattle.layer.specs.Shape.{fullHeight, fullWidth}
-use Rattle.layer.specs.Planned.{Planned}
+use Rattle.layer.specs.Planned.{InRange, Planned}
 use Rattle.load.specs.Weights.{Weighted}
 use Rattle.worst.specs.declared.output.Output.{Output}
 use Rattle.worst.specs.Window.{hasWhole}
@@ -23,3 +24,9 @@ pub record ShownAt (l : Layer) (kernel : List ℤ) (o : Output) : Type 0 where
   pub channel-in : o .channel < l .outputs
   pub row-in : o .row < fullHeight l
   pub column-in : o .column < fullWidth l
+
+-- of the rows: H, the crop's top and its h; of the columns: W, left and w
+pub record Cropped (l : Layer) (extent start count : ℕ) : Type 0 where
+  pub shape : InRange l
+  pub extent-high : extent ≤ 512
+  pub end-high : start + count ≤ 2058

@@ -4,10 +4,9 @@ use native.Mathlib.Omega.{arith}
 use lib.IntN.{ℤ}
 use Rattle.layer.specs.declared.shape.Layer.{Layer}
 use Rattle.layer.specs.Planned.{Planned}
-use Rattle.worst.specs.Window.{Cropped}
 use Rattle.worst.specs.WindowLaws.{first-window}
 use Rattle.worst.specs.Worst.{worstOutput}
-use Rattle.worst.specs.Shown.{Shown, ShownAt}
+use Rattle.worst.specs.Shown.{Shown, ShownAt, Cropped}
 use Rattle.worst.specs.ReachedLaws.{channel-in}
 
 pub rows-cropped : (l : Layer) → Planned l → Cropped l (l .height) (l .top) (l .rows)

@@ -1,31 +1,19 @@
 -- 02, E13: the cropped outputs whose whole K by K window lies inside the map. The laws are in `WindowLaws`.
 use mathlib.Core.Path.{_≡_}
 use mathlib.Core.Bool.{Bool, true, _&&_}
-use Prim.Native.Nat.{ℕ, _+_, _*_, _/_, _%_, _≤_, _<_}
+use Prim.Native.Nat.{ℕ, _+_, _*_, _/_, _%_, _<_}
 use lib.Dec.{ltb}
 use Rattle.algebra.specs.Every.{every}
 use Rattle.algebra.specs.First.{firstWhere}
 use Rattle.layer.specs.declared.shape.Layer.{Layer}
 use Rattle.layer.specs.Direct.{within}
-use Rattle.layer.specs.Planned.{InRange}
 
--- ---- one direction: rows, where `extent` is H, or columns, where it is W
+-- ---- the windows
 
--- the window of row e of the full output lies inside the map: each of its K rows, eS + a − P, is one of the map's
+-- rows, where `extent` is H, or columns, where it is W: the window of row e of the full output lies inside the map, that is each of its K rows,
+-- eS + a − P, is one of the map's
 unfoldable pub insideAt : Layer → (extent e : ℕ) → Bool
 insideAt l extent e = every (l .side) (λ a. within (l .padding) extent (e * l .stride + a))
-
--- the first of the `count` rows that are kept, from row `start` of the full output on, whose window lies inside the map; `count` where none does
-unfoldable pub firstInside : Layer → (extent start count : ℕ) → ℕ
-firstInside l extent start count = firstWhere count (λ i. insideAt l extent (start + i))
-
--- what the code asks: the figures are in range
-pub record Cropped (l : Layer) (extent start count : ℕ) : Type 0 where
-  pub shape : InRange l
-  pub extent-high : extent ≤ 512
-  pub end-high : start + count ≤ 2058
-
--- ---- both directions
 
 -- the whole window of row i, column j of the crop lies inside the map
 abbrev pub isWhole : Layer → (i j : ℕ) → Bool
@@ -60,3 +48,9 @@ pub record Windowed (l : Layer) : Type 0 where
   pub row : ℕ
   pub column : ℕ
   pub whole : Whole l row column
+
+-- ---- one direction alone, in which the code looks for it
+
+-- the first of the `count` rows that are kept, from row `start` of the full output on, whose window lies inside the map; `count` where none does
+unfoldable pub firstInside : Layer → (extent start count : ℕ) → ℕ
+firstInside l extent start count = firstWhere count (λ i. insideAt l extent (start + i))

@@ -34,6 +34,7 @@ fn worst_channel(layer: Layer, kernel: &[i16]) -> usize
     channel
 }
 
+// The output of that channel at that window.
 pub(crate) fn worst_output(layer: Layer, kernel: &[i16]) -> Output
     requires { ⌜ Shown layer (now kernel) ⌝ }
     ensures { λ r. ⌜ r ≡ worstOutput layer (now (kernel .entry)) ⌝ }

@@ -8,7 +8,8 @@ ghost use Prim.Native.Nat.{_-_};
 ghost use Rattle.base.specs.Number.{ceilingDiv};
 ghost use Rattle.layer.specs.Planned.{InRange, Planned};
 ghost use Rattle.layer.specs.Shape.{isConv};
-ghost use Rattle.worst.specs.Window.{firstInside, hasWhole, Cropped};
+ghost use Rattle.worst.specs.Window.{hasWhole, firstInside};
+ghost use Rattle.worst.specs.Shown.{Cropped};
 
 // The first row of the crop whose window does not begin before the map: ⌈P/S⌉ − top, or 0 where that is below 0.
 fn first_begun(layer: Layer, start: usize) -> usize
