@@ -95,7 +95,7 @@ module _ {engine : Engine} (lawful : Lawful engine) (l : Layer) (map kernel : Li
           bounded = r .bounded;
           place = worstPlace l kernel;
           kept = r .kept;
-          larger = rw (r .equals) (refused-above refused);
+          larger = rw (r .equals) (omega (arith, refused-above refused));
         }
 
     -- of every layer: what exceeds the limit is refused
