@@ -1,5 +1,5 @@
 -- Laws of the first number below n that passes a test: it passes, none before it does, and these two facts tell it; and of the first of A rows of B
--- places whose row and whose column pass. They rest on the definition alone.
+-- places whose row and whose column pass. They rest on the definition and on a law of two tests.
 use mathlib.Core.Path.{_≡_, refl, sym, ap, _∙_}
 use mathlib.Core.Bool.{Bool, true, false, _&&_, cond, true≢false}
 use Prim.Native.Nat.{ℕ, zero, suc, _+_, _*_, _/_, _%_, _<_, _≤_}
@@ -72,7 +72,7 @@ first-least n test i e = go (decLt i (firstWhere n test))
 -- ---- two tests, of the row and of the column of a place among A rows of B
 
 module _ (A B : ℕ) (row column : ℕ → Bool) where
-  abbrev pub both-pass : ℕ → Bool
+  abbrev both-pass : ℕ → Bool
   both-pass p = row (p / B) && column (p % B)
 
   -- where some row and some column pass, it stands in the first such row and the first such column

@@ -1,5 +1,5 @@
--- Laws of the greatest of n numbers. `max` is an addition whose sums are the greatest numbers, so that the laws of sums hold of it too. It rests
--- on the definition and on the laws of sums.
+-- Laws of the greatest of n numbers, and of the first place where it stands. `max` is an addition whose sums are the greatest numbers, so that the
+-- laws of sums hold of it too. They rest on the definitions, on the laws of sums and on those of the first number that passes a test.
 use mathlib.Core.Path.{_≡_, refl, sym, ap, _∙_}
 use mathlib.Core.Bool.{Bool}
 use Prim.Native.Nat.{ℕ, zero, suc, _+_, _<_, _≤_, max}
@@ -68,10 +68,6 @@ module _ (f : ℕ → ℕ) where
   first-greatest-is n k l e less =
       first-is n (stands n) k l (eq-eqb _ _ e) (λ i h. ne-eqb (f i) (greatest n f) (λ same. omega (arith, less i h)))
 
-  most : (n : ℕ) → firstGreatest n f ≤ n
-  unfolding firstGreatest
-  most n = first-most n (stands n)
-
   -- it holds the greatest number where it is one of n places
   holds : (n : ℕ) → firstGreatest n f < n → f (firstGreatest n f) ≡ greatest n f
   unfolding firstGreatest
@@ -107,12 +103,13 @@ module _ (f : ℕ → ℕ) where
 
   -- where there are numbers, it is one of their places
   pub first-greatest-below : (n : ℕ) → 0 < n → firstGreatest n f < n
+  unfolding firstGreatest
   first-greatest-below zero some = absurd (omega arith)
   first-greatest-below (suc n) some = go (decLt (greatest n f) (f n)) (first-greatest-below n)
     where
       go : Dec (greatest n f < f n) → (0 < n → firstGreatest n f < n) → firstGreatest (suc n) f < suc n
       go (yes above) before = rw (rw add-one at (first-greatest-next n above .1)) (omega arith)
-      go (no within) before = rw (rw add-one at (stays n before (omega arith) .1)) (omega (arith, most n))
+      go (no within) before = rw (rw add-one at (stays n before (omega arith) .1)) (omega (arith, first-most n (stands n)))
 
   pub first-greatest-stays : (n : ℕ) → f n ≤ greatest n f → (greatest (n + 1) f ≡ greatest n f) × (firstGreatest (n + 1) f ≡ firstGreatest n f)
   first-greatest-stays n within = stays n (first-greatest-below n) within

@@ -1,6 +1,6 @@
--- The load of an output channel bounds the size of its direct sums, so that a sum whose load is within the limit is read back from its
--- residue. Rules 15 and 16 bound every map value and the load of every output channel. It rests on the one form of both kinds in `WeighedLaws`, on the
--- laws of groups, and on the sizes of sums.
+-- The load of an output channel bounds the size of its direct sums, so that a sum whose load is within the limit is read back from its residue. Rules
+-- 15 and 16 bound every map value and the load of every output channel, and no more; the rules give what the code of the load asks. It rests on the
+-- one form of both kinds in `WeighedLaws`, on the laws of groups, and on the sizes of sums.
 use mathlib.Core.Path.{_≡_, refl}
 use mathlib.Core.Bool.{Bool, true, false, _&&_, cond}
 use mathlib.Core.List.{List, [], _∷_}
@@ -91,7 +91,7 @@ peak-bounds peak [] e n = omega arith
 peak-bounds peak (value ∷ values) e zero = leb-true (natAbs value) peak (both-true (leb (natAbs value) peak) (withinPeak peak values) e .0)
 peak-bounds peak (value ∷ values) e (suc n) = peak-bounds peak values (both-true (leb (natAbs value) peak) (withinPeak peak values) e .1) n
 
--- and of all places
+-- conversely, where no place has a value beyond the peak, the map is within it
 pub peak-from : (peak : ℕ) (values : List ℤ) → ((n : ℕ) → n < length values → natAbs (getD values n (pos 0)) ≤ peak) → withinPeak peak values ≡ true
 unfolding withinPeak
 peak-from peak [] h = refl
@@ -117,7 +117,7 @@ pub load-fits : (l : Layer) (kernel : List ℤ) → loadsFit l kernel ≡ true �
 unfolding loadsFit
 load-fits l kernel e m h = leb-true _ _ (every-at (l .outputs) (λ m. leb (load l kernel m) (loadLimit (l .field))) e m h)
 
--- and of all of them
+-- conversely, where no load is above the limit, 16 holds
 pub loads-from : (l : Layer) (kernel : List ℤ) → ((m : ℕ) → m < l .outputs → load l kernel m ≤ loadLimit (l .field)) → loadsFit l kernel ≡ true
 unfolding loadsFit
 loads-from l kernel h = every-from (l .outputs) _ (λ m k. le-leb _ _ (h m k))

@@ -18,10 +18,10 @@ use Rattle.checks.specs.Checks.{runRules}
 abbrev pub earlierCode : Engine → Layer → (map kernel : List ℤ) → (output scratch : ℕ) → ℕ
 earlierCode engine l map kernel output scratch = firstBroken (rulesBefore 16 (runRules engine l map kernel output scratch))
 
--- some map of this length within the peak has a cropped output larger in size than the limit
-pub record Exceeds (l : Layer) (kernel : List ℤ) (count : ℕ) : Type 0 where
+-- some map of so many values within the peak has a cropped output larger in size than the limit
+pub record Exceeds (l : Layer) (kernel : List ℤ) (room : ℕ) : Type 0 where
   pub map : List ℤ
-  pub size : length map ≡ count
+  pub size : length map ≡ room
   pub bounded : withinPeak (l .peak) map ≡ true
   pub place : ℕ
   pub kept : place < outputCount l

@@ -2,14 +2,14 @@
 pub mod Window
 pub mod Worst
 pub mod Answer
-pub mod Shown
+pub mod Accepted
 pub mod Reached
 pub mod Exceeds
 -- laws
 pub mod WindowLaws
 pub mod WorstLaws
 pub mod ReachedLaws
-pub mod ShownLaws
+pub mod AcceptedLaws
 pub mod AnswerLaws
 pub mod RangeLaws
 pub mod WorstCases

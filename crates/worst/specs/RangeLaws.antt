@@ -1,6 +1,6 @@
--- The theorem of the range check: of CONV layers with a whole window, a run of any engine that passes every earlier check answers 16 exactly where some
--- map of its length within the peak has an output larger in size than the limit. The worst map is such a map if there is one; the load bounds the outputs
--- of all maps. And `worst_map` accepts the layer of every such run, so that it shows the refusal.
+-- The theorem of the range check: of CONV layers with a whole window, a run of any engine that passes every earlier check answers 16 exactly where
+-- some map of its length within the peak has an output larger in size than the limit. The worst map is such a map if there is one; the load bounds
+-- the outputs of all maps. And `worst_map` accepts the layer of every such run, so that it shows the refusal.
 use mathlib.Core.Path.{_≡_, refl, sym, ap, _∙_}
 use mathlib.Core.Bool.{Bool, true, false, cond}
 use mathlib.Core.List.{List, [], _∷_, _++_}

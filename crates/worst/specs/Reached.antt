@@ -1,4 +1,5 @@
--- 02, E13, in the request's words: what is to hold of the map that an accepted call leaves. The theorem is in `ReachedLaws`.
+-- 02, E13, in the request's words: what is to hold of the map that an accepted call leaves. The theorem of a call is
+-- `worst-accepted` in `AnswerLaws`.
 use mathlib.Core.Path.{_≡_}
 use mathlib.Core.Bool.{true}
 use mathlib.Core.List.{List}

@@ -1,4 +1,4 @@
--- The theorem of the worst map: it is within the peak, and the output of the first channel with the greatest load, at the first whole window of the
+-- What holds of the worst map: it is within the peak, and the output of the first channel with the greatest load, at the first whole window of the
 -- crop, equals that load. It rests on the laws of the first greatest number, of whole windows, and of the map for one output.
 use mathlib.Core.Path.{_≡_, ap, _∙_}
 use mathlib.Core.Bool.{true}
@@ -22,13 +22,13 @@ use Rattle.worst.specs.WindowLaws.{first-window, first-below, no-earlier
 use Rattle.worst.specs.WorstLaws.{map-length, map-within, reaches}
 
 module _ (l : Layer) (r : InRange l) (kernel : List ℤ) (conv-kind : l .kind ≡ 0) (has : hasWhole l ≡ true) where
-  pub channel-in : worstChannel l kernel < l .outputs
+  channel-in : worstChannel l kernel < l .outputs
   channel-in = first-greatest-below (load l kernel) (l .outputs) (r .outputs-low)
 
-  pub place-kept : worstPlace l kernel < outputCount l
+  place-kept : worstPlace l kernel < outputCount l
   place-kept = let flat : worstPlace l kernel < l .outputs * (l .rows * l .columns) = digits-lt channel-in (first-below l has) in omega arith
 
-  pub channel-load : load l kernel (worstChannel l kernel) ≡ greatestLoad l kernel
+  channel-load : load l kernel (worstChannel l kernel) ≡ greatestLoad l kernel
   channel-load = first-greatest-at (load l kernel) (l .outputs) (r .outputs-low)
 
   equals : directAt l (worstMap l kernel) kernel (worstPlace l kernel) ≡ pos (greatestLoad l kernel)

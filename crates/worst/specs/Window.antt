@@ -16,12 +16,12 @@ unfoldable pub insideAt : Layer → (extent e : ℕ) → Bool
 insideAt l extent e = every (l .side) (λ a. within (l .padding) extent (e * l .stride + a))
 
 -- the whole window of row i, column j of the crop lies inside the map
-abbrev pub isWhole : Layer → (i j : ℕ) → Bool
-isWhole l i j = insideAt l (l .height) (l .top + i) && insideAt l (l .width) (l .left + j)
+abbrev pub wholeAt : Layer → (i j : ℕ) → Bool
+wholeAt l i j = insideAt l (l .height) (l .top + i) && insideAt l (l .width) (l .left + j)
 
 -- the first place of the crop, row by row, with such a window; h·w where there is none
 unfoldable pub firstWhole : Layer → ℕ
-firstWhole l = firstWhere (l .rows * l .columns) (λ p. isWhole l (p / l .columns) (p % l .columns))
+firstWhole l = firstWhere (l .rows * l .columns) (λ p. wholeAt l (p / l .columns) (p % l .columns))
 
 -- there is one
 unfoldable pub hasWhole : Layer → Bool
@@ -40,7 +40,7 @@ wholeColumn l = firstWhole l % l .columns
 pub record Whole (l : Layer) (i j : ℕ) : Type 0 where
   pub row-kept : i < l .rows
   pub column-kept : j < l .columns
-  pub inside : isWhole l i j ≡ true
+  pub inside : wholeAt l i j ≡ true
 
 -- the layer is CONV, and some cropped output's whole window lies inside the map
 pub record Windowed (l : Layer) : Type 0 where

@@ -1,6 +1,6 @@
 -- Laws of whole windows: in one direction the first window inside the map is the first that does not begin before it, or there is none; in both
--- directions the first whole window of the crop stands in the first such row and the first such column. They rest on the laws of the first number that
--- passes a test and of the quotient rounded up.
+-- directions the first whole window of the crop stands in the first such row and the first such column. They rest on the laws of the first number
+-- that passes a test and of the quotient rounded up.
 use mathlib.Core.Path.{_≡_, refl, sym, ap, _∙_}
 use mathlib.Core.Bool.{Bool, true, false, _&&_}
 use Prim.Native.Nat.{ℕ, _+_, _*_, _-_, _/_, _%_, _<_, _≤_}
@@ -16,7 +16,12 @@ use Rattle.base.specs.NumberLaws.{ceiling-le, le-ceiling}
 use Rattle.layer.specs.declared.shape.Layer.{Layer}
 use Rattle.layer.specs.Direct.{within}
 use Rattle.layer.specs.Planned.{InRange}
-use Rattle.worst.specs.Window.{insideAt, firstInside, isWhole, firstWhole, hasWhole, wholeRow, wholeColumn, Whole}
+use Rattle.worst.specs.Window.{insideAt, firstInside, wholeAt, firstWhole, hasWhole, wholeRow, wholeColumn, Whole}
+
+-- a test that cannot pass
+fails : (t : Bool) → (t ≡ true → ⊥) → t ≡ false
+fails true h = absurd (h refl)
+fails false h = refl
 
 -- ---- one window in one direction
 
@@ -31,20 +36,20 @@ module _ (l : Layer) (extent e : ℕ) where
       (leb-true _ _ (both .0), ltb-true _ _ (both .1))
 
   -- it begins and ends inside the map
-  pub inside-ends : 1 ≤ l .side → insideAt l extent e ≡ true → (l .padding ≤ e * l .stride) × (e * l .stride + l .side ≤ extent + l .padding)
+  inside-ends : 1 ≤ l .side → insideAt l extent e ≡ true → (l .padding ≤ e * l .stride) × (e * l .stride + l .side ≤ extent + l .padding)
   inside-ends some w =
       let begin = inside-row w 0 (omega arith) in
       let end = inside-row w (l .side - 1) (omega arith) in
       (omega arith, omega arith)
 
-  pub inside-from : l .padding ≤ e * l .stride → e * l .stride + l .side ≤ extent + l .padding → insideAt l extent e ≡ true
+  inside-where : l .padding ≤ e * l .stride → e * l .stride + l .side ≤ extent + l .padding → insideAt l extent e ≡ true
   unfolding insideAt
-  inside-from begin end = every-from (l .side) _ (λ a h.
+  inside-where begin end = every-from (l .side) _ (λ a h.
       rw (le-leb (l .padding) (e * l .stride + a) (omega arith), lt-ltb (e * l .stride + a - l .padding) extent (omega arith)))
 
--- no window begins further on than this
-pub begin-high : (l : Layer) → InRange l → (e : ℕ) → e ≤ 2058 → e * l .stride ≤ 8232
-begin-high l r e h = mul-le-mul {n₂ = 2058} {m₂ = 4} h (r .stride-high)
+-- no window of a full output, which has at most 2,058 rows and columns, begins further on than 4 times that
+pub window-begins : (l : Layer) → InRange l → (e : ℕ) → e ≤ 2058 → e * l .stride ≤ 8232
+window-begins l r e h = mul-le-mul {n₂ = 2058} {m₂ = 4} h (r .stride-high)
 
 -- ---- the first window in one direction
 
@@ -69,21 +74,13 @@ module _ (l : Layer) (extent start count : ℕ) (strided : 1 ≤ l .stride) (som
 
   pub first-inside-found : begun < count → (start + begun) * l .stride + l .side ≤ extent + l .padding → firstInside l extent start count ≡ begun
   unfolding firstInside
-  first-inside-found below end = first-is count (λ i. insideAt l extent (start + i)) begun below (inside-from l extent (start + begun) begins end)
-      (λ i h. outside (insideAt l extent (start + i)) refl h)
-    where
-      outside : {i : ℕ} (t : Bool) → insideAt l extent (start + i) ≡ t → i < begun → t ≡ false
-      outside {i} true w h = absurd (omega (arith, not-before i w))
-      outside false w h = refl
+  first-inside-found below end = first-is count (λ i. insideAt l extent (start + i)) begun below (inside-where l extent (start + begun) begins end)
+      (λ i h. fails (insideAt l extent (start + i)) (λ w. omega (arith, not-before i w)))
 
   -- none, where the crop ends before that row or its window after the map
   none : ((i : ℕ) → i < count → insideAt l extent (start + i) ≡ true → ⊥) → firstInside l extent start count ≡ count
   unfolding firstInside
-  none h = first-none count _ (λ i k. outside (insideAt l extent (start + i)) refl k)
-    where
-      outside : {i : ℕ} (t : Bool) → insideAt l extent (start + i) ≡ t → i < count → t ≡ false
-      outside {i} true w k = absurd (h i k w)
-      outside false w k = refl
+  none h = first-none count _ (λ i k. fails (insideAt l extent (start + i)) (h i k))
 
   pub first-inside-cut : count ≤ begun → firstInside l extent start count ≡ count
   first-inside-cut h = none (λ i k w. omega (arith, not-before i w))
@@ -128,14 +125,14 @@ module _ (l : Layer) where
     first-window = record {
       row-kept = rw whole-row (both .0);
       column-kept = rw whole-column (both .1);
-      inside = first-passes (l .rows * l .columns) (λ p. isWhole l (p / l .columns) (p % l .columns)) first-below;
+      inside = first-passes (l .rows * l .columns) (λ p. wholeAt l (p / l .columns) (p % l .columns)) first-below;
     }
 
   -- no earlier one is whole, and where one is, there is a first
   module _ {i j : ℕ} (w : Whole l i j) where
     pub no-earlier : firstWhole l ≤ i * l .columns + j
     unfolding firstWhole
-    no-earlier = first-least (l .rows * l .columns) (λ p. isWhole l (p / l .columns) (p % l .columns)) (i * l .columns + j)
+    no-earlier = first-least (l .rows * l .columns) (λ p. wholeAt l (p / l .columns) (p % l .columns)) (i * l .columns + j)
         (rw (digits-div i (w .column-kept), digits-mod i (w .column-kept)) (w .inside))
 
     pub whole-has : hasWhole l ≡ true

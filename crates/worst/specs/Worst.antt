@@ -22,13 +22,13 @@ valueFor peak (negsuc n) = negℤ (pos peak)
 
 -- the weight that meets row i, column j of map channel c, which stands at row i + P − eS, column j + P − fS of its plane; outside the window there is
 -- none, which counts as a weight of 0
-unfoldable pub weightAt : Layer → List ℤ → Output → (c i j : ℕ) → ℤ
-weightAt l kernel o c i j =
+unfoldable pub weightMet : Layer → List ℤ → Output → (c i j : ℕ) → ℤ
+weightMet l kernel o c i j =
     shifted (l .side) (l .side) kernel (planeOf l (o .channel) c) (o .row * l .stride) (i + l .padding) (o .column * l .stride) (j + l .padding)
 
 -- the value at the flat place p of the map
 unfoldable pub valueAt : Layer → List ℤ → Output → (p : ℕ) → ℤ
-valueAt l kernel o = stackedAt (l .height) (l .width) (λ c i j. valueFor (l .peak) (weightAt l kernel o c i j))
+valueAt l kernel o = stackedAt (l .height) (l .width) (λ c i j. valueFor (l .peak) (weightMet l kernel o c i j))
 
 abbrev pub mapFor : Layer → List ℤ → Output → List ℤ
 mapFor l kernel o = table (mapCount l) (valueAt l kernel o)

@@ -20,7 +20,7 @@ use Rattle.load.specs.Load.{sizeTotal, load}
 use Rattle.load.specs.Blank.{blank, noneBlank}
 use Rattle.checks.specs.Charts.{minus, positive, equal, equals}
 use Rattle.worst.specs.Window.{insideAt, firstWhole, hasWhole}
-use Rattle.worst.specs.Worst.{valueFor, weightAt, valueAt, worstPlace}
+use Rattle.worst.specs.Worst.{valueFor, weightMet, valueAt, worstPlace}
 use Rattle.worst.specs.Answer.{worstCode, worstLeft}
 
 pub data Case : Type 0 where
@@ -72,5 +72,5 @@ cases =
 -- every case of the table holds
 pub cases-hold : T (everyOf holds cases)
 unfolding cases holds worstCode inside cropFits convSize tconvSize noneBlank blank insideAt firstWhole hasWhole firstWhere greatest firstGreatest
-    load sizeTotal sum table valueAt valueFor weightAt directAt fullAt conv sumZ
+    load sizeTotal sum table valueAt valueFor weightMet directAt fullAt conv sumZ
 cases-hold = tt

@@ -1,5 +1,5 @@
--- The map for an output whose window lies whole inside the map: it is within the peak, and the output equals the load of its channel, since each weight
--- times the value that it meets is A times the weight's size. It rests on the one form of both kinds in `WeighedLaws`.
+-- The map for an output whose window lies whole inside the map: it is within the peak, and the output equals the load of its channel, since each
+-- weight times the value that it meets is A times the weight's size. It rests on the one form of both kinds in `WeighedLaws`.
 use mathlib.Core.Path.{_≡_, refl, sym, ap, _∙_, subst}
 use mathlib.Core.Bool.{Bool, true, false, _&&_, true≢false}
 use mathlib.Core.List.{List}
@@ -30,11 +30,11 @@ use Rattle.load.specs.LoadLaws.{load-conv, peak-from}
 use Rattle.worst.specs.declared.output.Output.{Output}
 use Rattle.worst.specs.Window.{insideAt}
 use Rattle.worst.specs.WindowLaws.{inside-row}
-use Rattle.worst.specs.Worst.{valueFor, weightAt, valueAt, mapFor}
+use Rattle.worst.specs.Worst.{valueFor, weightMet, valueAt, mapFor}
 
 -- ---- one value
 
-pub value-size : (peak : ℕ) (w : ℤ) → natAbs (valueFor peak w) ≤ peak
+value-size : (peak : ℕ) (w : ℤ) → natAbs (valueFor peak w) ≤ peak
 unfolding valueFor
 value-size peak (pos zero) = omega arith
 value-size peak (pos (suc n)) = omega arith
@@ -85,8 +85,8 @@ abbrev pub columnMet : Layer → Output → (j : ℕ) → Bool
 columnMet l o j = within (o .column * l .stride) (l .side) (j + l .padding)
 
 module _ (l : Layer) (kernel : List ℤ) (o : Output) (c i j : ℕ) where
-  pub weight-outside : rowMet l o i && columnMet l o j ≡ false → weightAt l kernel o c i j ≡ pos 0
-  unfolding weightAt
+  pub weight-outside : rowMet l o i && columnMet l o j ≡ false → weightMet l kernel o c i j ≡ pos 0
+  unfolding weightMet
   weight-outside out = none (rowMet l o i) (columnMet l o j) _ out
     where
       none : (a b : Bool) (z : ℤ) → a && b ≡ false → when a (when b z) ≡ pos 0
@@ -95,9 +95,9 @@ module _ (l : Layer) (kernel : List ℤ) (o : Output) (c i j : ℕ) where
       none false b z e = refl
 
   pub weight-inside : l .kind ≡ 0 → rowMet l o i && columnMet l o j ≡ true
-      → weightAt l kernel o c i j
+      → weightMet l kernel o c i j
       ≡ cell (l .side) (l .side) kernel (o .channel * l .inputs + c) (i + l .padding - o .row * l .stride) (j + l .padding - o .column * l .stride)
-  unfolding weightAt
+  unfolding weightMet
   weight-inside conv-kind met =
       let (row, column) = both-true (rowMet l o i) (columnMet l o j) met in
       rw (eq-eqb (l .kind) 0 conv-kind, row, column)
@@ -115,12 +115,12 @@ module _ (l : Layer) (kernel : List ℤ) (o : Output) where
 
   -- the value at a channel, row and column
   pub value-at : (c i j : ℕ) → i < l .height → j < l .width
-      → valueAt l kernel o ((c * l .height + i) * l .width + j) ≡ valueFor (l .peak) (weightAt l kernel o c i j)
+      → valueAt l kernel o ((c * l .height + i) * l .width + j) ≡ valueFor (l .peak) (weightMet l kernel o c i j)
   unfolding valueAt
-  value-at c i j hi hj = stacked-at (l .height) (l .width) (λ c i j. valueFor (l .peak) (weightAt l kernel o c i j)) c i j hi hj
+  value-at c i j hi hj = stacked-at (l .height) (l .width) (λ c i j. valueFor (l .peak) (weightMet l kernel o c i j)) c i j hi hj
 
   map-cell : (c i j : ℕ) → c < l .inputs → i < l .height → j < l .width
-      → cell (l .height) (l .width) (mapFor l kernel o) c i j ≡ valueFor (l .peak) (weightAt l kernel o c i j)
+      → cell (l .height) (l .width) (mapFor l kernel o) c i j ≡ valueFor (l .peak) (weightMet l kernel o c i j)
   map-cell c i j hc hi hj =
       getD-table (pos 0) (mapCount l) (valueAt l kernel o) ((c * l .height + i) * l .width + j) (digits-lt (digits-lt hc hi) hj) ∙ value-at c i j hi hj
 
@@ -129,7 +129,7 @@ module _ (l : Layer) (kernel : List ℤ) (o : Output) where
     meets : (c a b : ℕ) → c < l .inputs → a < l .side → b < l .side
         → shifted (l .height) (l .width) (mapFor l kernel o) c (l .padding) (o .row * l .stride + a) (l .padding) (o .column * l .stride + b)
         ≡ valueFor (l .peak) (cell (l .side) (l .side) kernel (planeOf l (o .channel) c) a b)
-    unfolding weightAt
+    unfolding weightMet
     meets c a b hc ha hb =
         let top = o .row * l .stride in
         let left = o .column * l .stride in

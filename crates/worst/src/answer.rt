@@ -21,8 +21,8 @@ fn length_code(layer: Layer, kernel: &[i16], room: usize) -> usize
     rules::next(code, 14, rules::is_inside(1, 32767, layer.peak))
 }
 
-// 24 where an output channel is blank, 29 where there is no window to show, else 0. The loads are not judged: a map of a layer that 16 refuses is
-// what is asked for.
+// 24 where an output channel is blank, 29 where there is no window to show, else 0. Whether the loads fit is not asked: a layer that 16 refuses is
+// what the map is for.
 fn shown_code(layer: Layer, kernel: &[i16]) -> usize
     requires { ⌜ Planned layer × Weighted layer (now kernel) ⌝ }
     ensures { λ r. ⌜ r ≡ firstBroken (shownRules layer (now (kernel .entry))) ⌝ }

@@ -1,5 +1,5 @@
 // A map to show for a range refusal: one within the peak that makes an output of a CONV layer equal the greatest load, where the window of some
-// cropped output lies whole inside the map. `worst_map` checks the layer and the lengths first, and leaves a refused map as it was.
+// cropped output lies whole inside the map.
 use layer::shape::Layer;
 use output::worst_output;
 use values::write_map;

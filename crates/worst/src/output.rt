@@ -5,7 +5,7 @@ use load::size_total;
 ghost use mathlib.Core.Path.{_≡_};
 ghost use Rattle.load.specs.Weights.{Weighted};
 ghost use Rattle.worst.specs.Worst.{worstChannel, worstOutput};
-ghost use Rattle.worst.specs.Shown.{Shown};
+ghost use Rattle.worst.specs.Accepted.{Accepted};
 
 // One place of the full output.
 pub struct Output {
@@ -36,7 +36,7 @@ fn worst_channel(layer: Layer, kernel: &[i16]) -> usize
 
 // The output of that channel at that window.
 pub(crate) fn worst_output(layer: Layer, kernel: &[i16]) -> Output
-    requires { ⌜ Shown layer (now kernel) ⌝ }
+    requires { ⌜ Accepted layer (now kernel) ⌝ }
     ensures { λ r. ⌜ r ≡ worstOutput layer (now (kernel .entry)) ⌝ }
 {
     let channel = worst_channel(layer, kernel);

@@ -1,4 +1,5 @@
-// The values of the map, written in stored order: at each place of the output's window the peak with the sign of the weight that meets it, elsewhere 0.
+// The values of the map, written in stored order: at each place of the output's window the peak with the sign of the weight that meets it, 0
+// elsewhere.
 use crate::output::Output;
 use layer::shape::Layer;
 ghost use mathlib.Core.Path.{_≡_};
@@ -8,8 +9,8 @@ ghost use lib.ListN.{length};
 ghost use Rattle.algebra.specs.Places.{Written, Run};
 ghost use Rattle.layer.specs.Direct.{within};
 ghost use Rattle.layer.specs.Shape.{mapCount};
-ghost use Rattle.worst.specs.Worst.{valueFor, weightAt, valueAt, mapFor};
-ghost use Rattle.worst.specs.Shown.{ShownAt};
+ghost use Rattle.worst.specs.Worst.{valueFor, weightMet, valueAt, mapFor};
+ghost use Rattle.worst.specs.Accepted.{MadeFor};
 
 // The value for a weight.
 fn value_for(weight: i16, peak: usize) -> i16
@@ -34,9 +35,9 @@ fn is_within(p: usize, n: usize, u: usize) -> bool
 }
 
 // The weight that meets row i, column j of map channel c in the output's sum; outside the window there is none, which counts as a weight of 0.
-fn weight_at(layer: Layer, kernel: &[i16], output: Output, c: usize, i: usize, j: usize) -> i16
-    requires { ⌜ ShownAt layer (now kernel) output × (c < layer .inputs) × (i < layer .height) × (j < layer .width) ⌝ }
-    ensures { λ r. ⌜ r ≡ weightAt layer (now (kernel .entry)) output c i j ⌝ }
+fn weight_met(layer: Layer, kernel: &[i16], output: Output, c: usize, i: usize, j: usize) -> i16
+    requires { ⌜ MadeFor layer (now kernel) output × (c < layer .inputs) × (i < layer .height) × (j < layer .width) ⌝ }
+    ensures { λ r. ⌜ r ≡ weightMet layer (now (kernel .entry)) output c i j ⌝ }
 {
     let side = layer.side;
     let top = output.row * layer.stride;
@@ -55,13 +56,13 @@ fn weight_at(layer: Layer, kernel: &[i16], output: Output, c: usize, i: usize, j
 
 // Row i of map channel c.
 fn write_row(layer: Layer, kernel: &[i16], output: Output, c: usize, i: usize, map: &mut [i16])
-    requires { ⌜ ShownAt layer (now kernel) output × (c < layer .inputs) × (i < layer .height) × (length (now map) ≡ mapCount layer) ⌝ }
+    requires { ⌜ MadeFor layer (now kernel) output × (c < layer .inputs) × (i < layer .height) × (length (now map) ≡ mapCount layer) ⌝ }
     ensures { λ _. ⌜ Written (pos 0) (Run ((c * layer .height + i) * layer .width) (layer .width)) (valueAt layer (now (kernel .entry)) output) (now (map .entry)) (now (map .exit)) ⌝ }
 {
     let start = (c * layer.height + i) * layer.width;
     let mut j = 0;
     while j < layer.width {
-        let weight = weight_at(layer, kernel, output, c, i, j);
+        let weight = weight_met(layer, kernel, output, c, i, j);
         let value = value_for(weight, layer.peak);
         let place = start + j;
         map[place] = value;
@@ -71,7 +72,7 @@ fn write_row(layer: Layer, kernel: &[i16], output: Output, c: usize, i: usize, m
 
 // Map channel c, row by row.
 fn write_plane(layer: Layer, kernel: &[i16], output: Output, c: usize, map: &mut [i16])
-    requires { ⌜ ShownAt layer (now kernel) output × (c < layer .inputs) × (length (now map) ≡ mapCount layer) ⌝ }
+    requires { ⌜ MadeFor layer (now kernel) output × (c < layer .inputs) × (length (now map) ≡ mapCount layer) ⌝ }
     ensures { λ _. ⌜ Written (pos 0) (Run (c * layer .height * layer .width) (layer .height * layer .width)) (valueAt layer (now (kernel .entry)) output) (now (map .entry)) (now (map .exit)) ⌝ }
 {
     let mut i = 0;
@@ -83,7 +84,7 @@ fn write_plane(layer: Layer, kernel: &[i16], output: Output, c: usize, map: &mut
 
 // The whole map, channel by channel.
 pub(crate) fn write_map(layer: Layer, kernel: &[i16], output: Output, map: &mut [i16])
-    requires { ⌜ ShownAt layer (now kernel) output × (length (now map) ≡ mapCount layer) ⌝ }
+    requires { ⌜ MadeFor layer (now kernel) output × (length (now map) ≡ mapCount layer) ⌝ }
     ensures { λ _. ⌜ now (map .exit) ≡ mapFor layer (now (kernel .entry)) output ⌝ }
 {
     let mut c = 0;

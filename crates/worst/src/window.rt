@@ -9,7 +9,7 @@ ghost use Rattle.base.specs.Number.{ceilingDiv};
 ghost use Rattle.layer.specs.Planned.{InRange, Planned};
 ghost use Rattle.layer.specs.Shape.{isConv};
 ghost use Rattle.worst.specs.Window.{hasWhole, firstInside};
-ghost use Rattle.worst.specs.Shown.{Cropped};
+ghost use Rattle.worst.specs.Accepted.{CropInRange};
 
 // The first row of the crop whose window does not begin before the map: ⌈P/S⌉ − top, or 0 where that is below 0.
 fn first_begun(layer: Layer, start: usize) -> usize
@@ -23,7 +23,7 @@ fn first_begun(layer: Layer, start: usize) -> usize
 // The first row of the crop whose window lies inside the map, `count` where there is none. No window ends before that of an earlier row does, so that
 // the first one that does not begin before the map is it, or none is.
 pub(crate) fn first_inside(layer: Layer, extent: usize, start: usize, count: usize) -> usize
-    requires { ⌜ Cropped layer extent start count ⌝ }
+    requires { ⌜ CropInRange layer extent start count ⌝ }
     ensures { λ r. ⌜ r ≡ firstInside layer extent start count ⌝ }
 {
     let row = first_begun(layer, start);

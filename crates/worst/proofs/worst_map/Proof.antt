@@ -6,9 +6,9 @@ use lib.ListN.{length}
 use Rattle.base.specs.RulesLaws.{outcome-made, outcome-lent}
 use Rattle.layer.specs.Shape.{mapCount}
 use Rattle.worst.specs.Worst.{mapFor}
-use Rattle.worst.specs.Shown.{Shown}
-use Rattle.worst.specs.ShownLaws.{worst-shown}
-use Rattle.worst.specs.AnswerLaws.{shown}
+use Rattle.worst.specs.Accepted.{Accepted}
+use Rattle.worst.specs.AcceptedLaws.{worst-made-for}
+use Rattle.worst.specs.AnswerLaws.{accepted}
 use Rattle.worst.proofs.worst_map.Statement.{statement}
 use Rattle.worst.proofs.worst_map.Tie as tie
 
@@ -22,17 +22,17 @@ returns c =
     (code .worst-code .ensures, sym (outcome-lent _ _ _ (λ e. broken .if1 .taken (code .worst-code .ensures ∙ e))))
 
 -- no rule is broken
-accepted : (c : tie.Else1) → let a = c .before .before .args in Shown (a .layer) (now (a .kernel)) × (length (now (a .map)) ≡ mapCount (a .layer))
-accepted c = shown _ _ _ (sym (c .before .worst-code .ensures) ∙ c .if1 .left)
+passed-all : (c : tie.Else1) → let a = c .before .before .args in Accepted (a .layer) (now (a .kernel)) × (length (now (a .map)) ≡ mapCount (a .layer))
+passed-all c = accepted _ _ _ (sym (c .before .worst-code .ensures) ∙ c .if1 .left)
 
 worst-output-requires : tie.Need-worst-output-requires
-worst-output-requires c κs = let passed : tie.Else1 = search in accepted passed .0
+worst-output-requires c κs = let passed : tie.Else1 = search in passed-all passed .0
 
 write-map-requires : tie.Need-write-map-requires
 write-map-requires c κs =
     let passed : tie.Else1 = search in
     let made : tie.After-worst-output = search in
-    (rw (made .worst-output .ensures) (worst-shown _ _ (accepted passed .0)), accepted passed .1)
+    (rw (made .worst-output .ensures) (worst-made-for _ _ (passed-all passed .0)), passed-all passed .1)
 
 same-length : tie.Need-same-length
 same-length c = search needs

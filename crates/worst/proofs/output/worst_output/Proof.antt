@@ -2,9 +2,9 @@
 use mathlib.Core.Path.{_≡_, sym, _∙_}
 use Prim.Native.Nat.{_+_, _<_}
 use native.Mathlib.Omega.{arith}
-use Rattle.worst.specs.WindowLaws.{whole-row, whole-column, first-window}
+use Rattle.worst.specs.WindowLaws.{whole-row, whole-column}
 use Rattle.worst.specs.Window.{wholeRow, wholeColumn}
-use Rattle.worst.specs.ShownLaws.{rows-cropped, columns-cropped}
+use Rattle.worst.specs.AcceptedLaws.{rows-in-range, columns-in-range, worst-made-for}
 use Rattle.worst.proofs.output.worst_output.Statement.{statement}
 use Rattle.worst.proofs.output.worst_output.Tie as tie
 
@@ -12,7 +12,7 @@ worst-channel-requires : tie.Need-worst-channel-requires
 worst-channel-requires c κs = let s : tie.Start = search in (s .pre .weights, s .pre .conv-kind)
 
 first-inside-requires : tie.Need-first-inside-requires
-first-inside-requires c κs = let s : tie.Start = search in rows-cropped _ (s .pre .plan)
+first-inside-requires c κs = let s : tie.Start = search in rows-in-range _ (s .pre .plan)
 
 -- the row that was found is that of the first whole window, which is one of the crop
 module _ (c : tie.After-first-inside) where
@@ -23,16 +23,13 @@ module _ (c : tie.After-first-inside) where
   row-is = c .first-inside .ensures ∙ sym (whole-row _ (start .pre .whole))
 
   row-high : start .args .layer .top + c .first-inside .result < 2058
-  row-high =
-      let p = start .pre .plan in
-      let kept = first-window _ (start .pre .whole) .row-kept in
-      omega (arith, row-is, kept, p .rows-end, p .full-height-high)
+  row-high = omega (arith, row-is, worst-made-for _ _ (start .pre) .row-in, start .pre .plan .full-height-high)
 
 add-row : tie.Need-add-row
 add-row c = let found : tie.After-first-inside = search in omega (arith, row-high found)
 
 first-inside-requires-2 : tie.Need-first-inside-requires-2
-first-inside-requires-2 c κs = let s : tie.Start = search in columns-cropped _ (s .pre .plan)
+first-inside-requires-2 c κs = let s : tie.Start = search in columns-in-range _ (s .pre .plan)
 
 -- and so is the column
 module _ (c : tie.After-first-inside2) where
@@ -43,10 +40,7 @@ module _ (c : tie.After-first-inside2) where
   column-is = c .first-inside2 .ensures ∙ sym (whole-column _ (begun .pre .whole))
 
   column-high : begun .args .layer .left + c .first-inside2 .result < 2058
-  column-high =
-      let p = begun .pre .plan in
-      let kept = first-window _ (begun .pre .whole) .column-kept in
-      omega (arith, column-is, kept, p .columns-end, p .full-width-high)
+  column-high = omega (arith, column-is, worst-made-for _ _ (begun .pre) .column-in, begun .pre .plan .full-width-high)
 
 add-column : tie.Need-add-column
 add-column c = let found : tie.After-first-inside2 = search in omega (arith, column-high found)

@@ -34,7 +34,7 @@ module _ (s : tie.Start Inv-loop μ-loop) where
   line-in = digits-lt (s .pre .1) (s .pre .2)
 
   lines-high : s .args .layer .inputs * s .args .layer .height ≤ 32768
-  lines-high = let r = s .pre .0 .shown .plan .shape in mul-le-mul {n₂ = 64} {m₂ = 512} (r .inputs-high) (r .height-high)
+  lines-high = let r = s .pre .0 .accepted .plan .shape in mul-le-mul {n₂ = 64} {m₂ = 512} (r .inputs-high) (r .height-high)
 
   place-in : (j : ℕ) → j < s .args .layer .width → line * s .args .layer .width + j < length (now (s .args .map))
   place-in j h =
@@ -42,7 +42,7 @@ module _ (s : tie.Start Inv-loop μ-loop) where
       omega (arith, s .pre .3)
 
   row-high : line * s .args .layer .width ≤ 16777216
-  row-high = mul-le-mul {n₂ = 32768} {m₂ = 512} (omega (arith, line-in, lines-high)) (s .pre .0 .shown .plan .shape .width-high)
+  row-high = mul-le-mul {n₂ = 32768} {m₂ = 512} (omega (arith, line-in, lines-high)) (s .pre .0 .accepted .plan .shape .width-high)
 
 mul-start : tie.Need-mul-start Inv-loop μ-loop
 mul-start c = let s : tie.Start Inv-loop μ-loop = search in omega (arith, line-in s, lines-high s)
@@ -56,26 +56,26 @@ mul-start-2 c = let s : tie.Start Inv-loop μ-loop = search in omega (arith, row
 loop-holds : tie.Need-loop-holds Inv-loop μ-loop
 loop-holds c = (omega arith, written-nothing (λ p h. omega arith))
 
-weight-at-requires : tie.Need-weight-at-requires Inv-loop μ-loop
-weight-at-requires c κs =
+weight-met-requires : tie.Need-weight-met-requires Inv-loop μ-loop
+weight-met-requires c κs =
     let s : tie.Start Inv-loop μ-loop = search in
     let turn : tie.Then1 Inv-loop μ-loop = search in
     (s .pre .0, s .pre .1, s .pre .2, turn .if1 .taken)
 
 value-for-requires : tie.Need-value-for-requires Inv-loop μ-loop
-value-for-requires c κs = let s : tie.Start Inv-loop μ-loop = search in s .pre .0 .shown .weights .peak-most
+value-for-requires c κs = let s : tie.Start Inv-loop μ-loop = search in s .pre .0 .accepted .weights .peak-most
 
 add-place : tie.Need-add-place Inv-loop μ-loop
 add-place c =
     let s : tie.Start Inv-loop μ-loop = search in
     let turn : tie.Then1 Inv-loop μ-loop = search in
-    omega (arith, row-high s, turn .if1 .taken, s .pre .0 .shown .plan .shape .width-high)
+    omega (arith, row-high s, turn .if1 .taken, s .pre .0 .accepted .plan .shape .width-high)
 
 mul-value : tie.Need-mul-value Inv-loop μ-loop
 mul-value c =
     let s : tie.Start Inv-loop μ-loop = search in
     let turn : tie.Then1 Inv-loop μ-loop = search in
-    omega (arith, row-high s, turn .if1 .taken, s .pre .0 .shown .plan .shape .width-high)
+    omega (arith, row-high s, turn .if1 .taken, s .pre .0 .accepted .plan .shape .width-high)
 
 slice-set-from-value : tie.Need-slice-set-from-value Inv-loop μ-loop
 slice-set-from-value c =
@@ -97,10 +97,10 @@ loop-again c =
     let at : tie.At-loop Inv-loop μ-loop = search in
     let a = s .args in
     let made : tie.After-value-for Inv-loop μ-loop = search in
-    let weighed : tie.After-weight-at Inv-loop μ-loop = search in
-    let word = toZ-ofZ (sfits-of (weighed .weight-at .ok)) in
+    let weighed : tie.After-weight-met Inv-loop μ-loop = search in
+    let word = toZ-ofZ (sfits-of (weighed .weight-met .ok)) in
     let is : toZ w16 (ofZ w16 (made .value-for .result)) ≡ valueAt (a .layer) (now (a .kernel)) (a .output) (line s * a .layer .width + at .loop .j) =
-    toZ-ofZ (sfits-of (made .value-for .ok)) ∙ made .value-for .ensures ∙ ap (valueFor (a .layer .peak)) (word ∙ weighed .weight-at .ensures)
+    toZ-ofZ (sfits-of (made .value-for .ok)) ∙ made .value-for .ensures ∙ ap (valueFor (a .layer .peak)) (word ∙ weighed .weight-met .ensures)
     ∙ sym (value-at (a .layer) (now (a .kernel)) (a .output) (a .c) (a .i) (at .loop .j) (s .pre .2) (turn .if1 .taken)) in
     (omega arith, written-longer (line s * a .layer .width) (at .loop .j) _ (place-in s _ (turn .if1 .taken)) (at .loop .inv .1) is)
 
@@ -124,7 +124,7 @@ write-row-spec =
     add-start
     mul-start-2
     loop-holds
-    weight-at-requires
+    weight-met-requires
     value-for-requires
     add-place
     mul-value

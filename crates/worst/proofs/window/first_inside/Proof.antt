@@ -4,7 +4,7 @@ use Prim.Native.Nat.{_+_, _*_, _-_, _≤_}
 use native.Mathlib.Omega.{arith}
 use borrow.Author.Needs.{needs}
 use Rattle.base.specs.Number.{ceilingDiv}
-use Rattle.worst.specs.WindowLaws.{begin-high, first-inside-found, first-inside-cut, first-inside-past}
+use Rattle.worst.specs.WindowLaws.{window-begins, first-inside-found, first-inside-cut, first-inside-past}
 use Rattle.worst.proofs.window.first_inside.Statement.{statement}
 use Rattle.worst.proofs.window.first_inside.Tie as tie
 
@@ -32,7 +32,7 @@ returns c =
 begins : (c : tie.Else1) → let a = start (c .before) .args in (a .start + c .before .first-begun .result) * a .layer .stride ≤ 8232
 begins c =
     let s = start (c .before) in
-    begin-high _ (s .pre .shape) _ (omega (arith, s .pre .end-high, c .if1 .left))
+    window-begins _ (s .pre .shape) _ (omega (arith, s .pre .end-high, c .if1 .left))
 
 add-end : tie.Need-add-end
 add-end c = search needs

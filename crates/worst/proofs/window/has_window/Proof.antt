@@ -3,15 +3,15 @@ use mathlib.Core.Path.{sym, ap}
 use mathlib.Core.Bool.{Bool, _&&_}
 use Rattle.layer.specs.Shape.{isConv}
 use Rattle.worst.specs.WindowLaws.{has-whole}
-use Rattle.worst.specs.ShownLaws.{rows-cropped, columns-cropped}
+use Rattle.worst.specs.AcceptedLaws.{rows-in-range, columns-in-range}
 use Rattle.worst.proofs.window.has_window.Statement.{statement}
 use Rattle.worst.proofs.window.has_window.Tie as tie
 
 first-inside-requires : tie.Need-first-inside-requires
-first-inside-requires c κs = let s : tie.Start = search in rows-cropped _ (s .pre)
+first-inside-requires c κs = let s : tie.Start = search in rows-in-range _ (s .pre)
 
 first-inside-requires-2 : tie.Need-first-inside-requires-2
-first-inside-requires-2 c κs = let s : tie.Start = search in columns-cropped _ (s .pre)
+first-inside-requires-2 c κs = let s : tie.Start = search in columns-in-range _ (s .pre)
 
 returns : tie.Need-returns
 returns c =

@@ -1,4 +1,4 @@
--- `weight_at`: where the place lies in the output's window, the weight is read at its row and column; else there is none.
+-- `weight_met`: where the place lies in the output's window, the weight is read at its row and column; else there is none.
 use mathlib.Core.Path.{_≡_, sym, ap₂, _∙_}
 use mathlib.Core.Bool.{true, _&&_}
 use Prim.Native.Nat.{ℕ, _+_, _*_, _-_, _<_, _≤_}
@@ -12,10 +12,10 @@ use mir.Facts.{toZ-ofZ}
 use Rattle.algebra.specs.EveryLaws.{both-true}
 use Rattle.layer.specs.declared.shape.Layer.{Layer}
 use Rattle.layer.specs.WindowLaws.{within-is}
-use Rattle.worst.specs.WindowLaws.{begin-high}
+use Rattle.worst.specs.WindowLaws.{window-begins}
 use Rattle.worst.specs.WorstLaws.{rowMet, columnMet, weight-outside, weight-inside}
-use Rattle.worst.proofs.values.weight_at.Statement.{statement}
-use Rattle.worst.proofs.values.weight_at.Tie as tie
+use Rattle.worst.proofs.values.weight_met.Statement.{statement}
+use Rattle.worst.proofs.values.weight_met.Tie as tie
 
 -- the call
 abbrev start : tie.After-is-within → tie.Start
@@ -39,17 +39,17 @@ module _ (s : tie.Start) where
   column = s .args .j + l .padding
 
   top-high : top ≤ 8232
-  top-high = let p = s .pre .0 .shown .plan in begin-high l (p .shape) _ (omega (arith, s .pre .0 .row-in, p .full-height-high))
+  top-high = let p = s .pre .0 .accepted .plan in window-begins l (p .shape) _ (omega (arith, s .pre .0 .row-in, p .full-height-high))
 
   left-high : left ≤ 8232
-  left-high = let p = s .pre .0 .shown .plan in begin-high l (p .shape) _ (omega (arith, s .pre .0 .column-in, p .full-width-high))
+  left-high = let p = s .pre .0 .accepted .plan in window-begins l (p .shape) _ (omega (arith, s .pre .0 .column-in, p .full-width-high))
 
   kernel-high : length (now (s .args .kernel)) ≤ 495616
   kernel-high =
-      let r = s .pre .0 .shown .plan .shape in
+      let r = s .pre .0 .accepted .plan .shape in
       let planes : l .outputs * l .inputs ≤ 4096 = mul-le-mul {n₂ = 64} {m₂ = 64} (r .outputs-high) (r .inputs-high) in
       let square : l .side * l .side ≤ 121 = mul-le-mul {n₂ = 11} {m₂ = 11} (r .side-high) (r .side-high) in
-      omega (arith, s .pre .0 .shown .weights .weights, mul-le-mul planes square)
+      omega (arith, s .pre .0 .accepted .weights .weights, mul-le-mul planes square)
 
 -- the two tests together
 met : (c : tie.After-is-within2) → let a = start (c .before) .args in
@@ -79,17 +79,17 @@ module _ (c : tie.Then1) where
 
   plane-in : (plane < l call .outputs * l call .inputs) × (l call .outputs * l call .inputs ≤ 4096)
   plane-in =
-      let r = call .pre .0 .shown .plan .shape in
+      let r = call .pre .0 .accepted .plan .shape in
       (digits-lt (call .pre .0 .channel-in) (call .pre .1), mul-le-mul {n₂ = 64} {m₂ = 64} (r .outputs-high) (r .inputs-high))
 
   line-in : (line < l call .outputs * l call .inputs * l call .side) × (l call .outputs * l call .inputs * l call .side ≤ 45056)
-  line-in = (digits-lt (plane-in .0) (in-row .1), mul-le-mul {n₂ = 4096} {m₂ = 11} (plane-in .1) (call .pre .0 .shown .plan .shape .side-high))
+  line-in = (digits-lt (plane-in .0) (in-row .1), mul-le-mul {n₂ = 4096} {m₂ = 11} (plane-in .1) (call .pre .0 .accepted .plan .shape .side-high))
 
   place-in : line * l call .side + (column call - left call) < length (now (call .args .kernel))
   place-in =
       let below : line * l call .side + (column call - left call) < l call .outputs * l call .inputs * l call .side * l call .side
       = digits-lt (line-in .0) (in-column .1) in
-      omega (arith, call .pre .0 .shown .weights .weights)
+      omega (arith, call .pre .0 .accepted .weights .weights)
 
 mul-top : tie.Need-mul-top
 mul-top c = let s : tie.Start = search in omega (arith, top-high s)
@@ -145,7 +145,7 @@ returns c =
     let s = call in-window in
     let a = s .args in
     toZ-ofZ (sfits-of (c .result .given))
-    ∙ sym (weight-inside (a .layer) (now (a .kernel)) (a .output) (a .c) (a .i) (a .j) (s .pre .0 .shown .conv-kind) (sym (met (in-window .before)) ∙ in-window .if1 .taken))
+    ∙ sym (weight-inside (a .layer) (now (a .kernel)) (a .output) (a .c) (a .i) (a .j) (s .pre .0 .accepted .conv-kind) (sym (met (in-window .before)) ∙ in-window .if1 .taken))
 
 returns-2 : tie.Need-returns-2
 returns-2 c =
@@ -153,8 +153,8 @@ returns-2 c =
     let a = start (columns .before) .args in
     sym (weight-outside (a .layer) (now (a .kernel)) (a .output) (a .c) (a .i) (a .j) (sym (met columns) ∙ c .if1 .left))
 
-pub weight-at-spec : {M : Type 1} → statement M
-weight-at-spec =
+pub weight-met-spec : {M : Type 1} → statement M
+weight-met-spec =
     tie.close
     (tie.spec
     mul-top
