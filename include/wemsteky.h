@@ -40,8 +40,8 @@
  * peak times the sum of the sizes of the weights that one output can meet, over all map channels. In CONV an output can meet all K by K weights.
  * In TCONV with stride S it meets only weights whose rows leave the same remainder by S, and whose columns do; of these S by S groups the one with
  * the greatest sum counts. The limit is 32,768 in field 4 and 2,147,483,647 in field 5. Where 16 comes up: use field 5, or smaller weights, or a
- * lower peak where the map's values allow it; wemsteky_worst_map writes a map that 16 guards against. Where both fields accept a layer, field 4
- * needs a quarter of the scratch; docs/PERFORMANCE.md says which is quicker.
+ * lower peak where the map's values allow it; in CONV wemsteky_worst_map writes a map that 16 guards against. Where both fields accept a layer,
+ * field 4 needs a quarter of the scratch; docs/PERFORMANCE.md says which is quicker.
  *
  * TILES are counted by output channel, then tile row, then tile column; each covers N - K + 1 rows and columns of the stride-1 grid.
  *

@@ -138,13 +138,17 @@ pub fn is_up_to(last: usize, number: usize) -> bool {
 
 /// The number of the first broken rule up to the last one given, or 0.
 fn first_broken(last: usize, call: &Call) -> usize {
-    RULES[..=place(last)].iter().find(|(_, holds)| !holds(call)).map_or(0, |&(number, _)| number)
+    first_of(RULES[..=place(last)].iter(), call)
+}
+
+/// The number of the first of these rules that is broken, or 0.
+fn first_of<'a>(mut rules: impl Iterator<Item = &'a Rule>, call: &Call) -> usize {
+    rules.find(|(_, holds)| !holds(call)).map_or(0, |&(number, _)| number)
 }
 
 /// The number of the first broken rule among those with the numbers given, in the table's order, or 0.
 pub fn first_broken_of(numbers: &[usize], call: &Call) -> usize {
-    let broken = |&&(number, holds): &&Rule| numbers.contains(&number) && !holds(call);
-    RULES.iter().find(broken).map_or(0, |&(number, _)| number)
+    first_of(RULES.iter().filter(|(number, _)| numbers.contains(number)), call)
 }
 
 /// What the planner returns.

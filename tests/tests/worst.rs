@@ -2,7 +2,7 @@
 //! drives against direct sums, no output larger, and every map of tiny layers.
 
 use wemsteky_tests::call::{Buffer, Call};
-use wemsteky_tests::damage::{breakable_layer, damages};
+use wemsteky_tests::damage::{breakable_layer, damages, Damage};
 use wemsteky_tests::direct::direct_sums;
 use wemsteky_tests::draw::{self, blank_channel, set_channel};
 use wemsteky_tests::layer::{Layer, CONV, TCONV};
@@ -30,18 +30,22 @@ fn hold(random: &mut Random, call: &Call) -> (usize, Vec<i16>) {
 }
 
 /// Holds the map, and by direct sums that its output is the greatest load and that none is larger; then runs it: the answer
-/// is 16 where that load is above the limit, and no other. Returns the greatest load.
+/// is 16 where that load is above the limit, and else the engine's outputs are the sums. Returns the greatest load.
 fn shown(random: &mut Random, call: &Call) -> u128 {
     let (answer, map) = hold(random, call);
     assert_eq!(answer, 0, "{:?}", call.layer);
-    let sums = direct_sums(&call.layer, &map, &call.kernel);
     let load = greatest_load(call).1;
+    let run = Call { map, ..draw::call(random, call.layer) };
+    let run = Call { kernel: call.kernel.clone(), ..run };
+    let sums = if load > load_limit(call.layer.field) {
+        let mut buffers = draw::buffers(random, &run);
+        assert_eq!(checked::run(&run, &mut buffers, None).number, 16, "{:?}", call.layer);
+        direct_sums(&call.layer, &run.map, &call.kernel)
+    } else {
+        checked::whole_run(random, &run)
+    };
     assert_eq!(sums[worst_map(call).1] as i128, load as i128, "{:?}", call.layer);
     assert!(sums.iter().all(|sum| u128::from(sum.unsigned_abs()) <= load), "{:?}", call.layer);
-    let run = Call { map, next: 0, budget: 0, ..call.clone() };
-    let mut buffers = draw::buffers(random, &run);
-    let expected = if load > load_limit(call.layer.field) { 16 } else { 0 };
-    assert_eq!(checked::job(&run, &mut buffers, None).number, expected, "{:?}", call.layer);
     load
 }
 
@@ -101,15 +105,18 @@ fn every_small_window() {
     let (mut random, mut whole, mut none) = (Random::new("worst, windows", 0), 0, 0);
     for (side, stride) in (1..=4).flat_map(|side| (1..=4).map(move |stride| (side, stride))) {
         for (padding, height) in (0..side).flat_map(|padding| (1..=7).map(move |height| (padding, height))) {
-            let layer = Layer::of([CONV, 4, 1, 1, height, 6, side, stride, padding, 5, 0, 0, 1, 1]);
+            let (inputs, outputs) = (random.between(1, 2), random.between(1, 2));
+            let layer = Layer::of([CONV, 4, inputs, outputs, height, 6, side, stride, padding, 5, 0, 0, 1, 1]);
             for crop in crops(layer.full_rows()) {
                 for layer in [cropped(layer, crop), turned(cropped(layer, crop))] {
                     let call =
                         Call { kernel: any_kernel(&mut random, &layer), map: zeros(&layer), layer, ..Call::default() };
-                    match hold(&mut random, &call).0 {
-                        0 => whole += 1,
-                        29 => none += 1,
-                        answer => panic!("{answer}: {layer:?}"),
+                    if first_whole(&layer).is_some() {
+                        shown(&mut random, &call);
+                        whole += 1;
+                    } else {
+                        assert_eq!(hold(&mut random, &call).0, 29, "{layer:?}");
+                        none += 1;
                     }
                 }
             }
@@ -185,9 +192,11 @@ fn at_the_limit_and_one_above() {
     }
 }
 
-/// On tiny layers, every map within the peak: the largest output of all is the greatest load.
+/// On tiny layers, every map within the peak: the largest output of all is the greatest load, so that a run is answered 16
+/// exactly where one of these maps has an output above the limit.
 #[test]
 fn every_map_of_tiny_layers() {
+    let (mut within, mut above) = (0, 0);
     for (trial, numbers) in [
         [CONV, 4, 1, 2, 2, 2, 2, 1, 0, 2, 0, 0, 1, 1],
         [CONV, 4, 1, 2, 2, 3, 2, 1, 1, 1, 0, 0, 3, 4],
@@ -200,16 +209,16 @@ fn every_map_of_tiny_layers() {
     {
         let mut random = Random::new("worst, every map", trial);
         let layer = Layer::of(numbers);
-        let mut call = draw::call(&mut random, layer);
-        for _ in 0..3 {
-            call.kernel = any_kernel(&mut random, &layer);
-            let largest = every_map(&layer)
-                .flat_map(|map| direct_sums(&layer, &map, &call.kernel))
-                .map(|sum| u128::from(sum.unsigned_abs()))
-                .max();
-            assert_eq!(largest, Some(shown(&mut random, &call)), "{layer:?}");
+        let least = vec![i16::MIN; layer.kernel_length() as usize];
+        for kernel in [draw::kernel(&mut random, &layer), least, any_kernel(&mut random, &layer)] {
+            let call = Call { kernel, ..draw::call(&mut random, layer) };
+            let sums = every_map(&layer).flat_map(|map| direct_sums(&layer, &map, &call.kernel));
+            let largest = sums.map(|sum| u128::from(sum.unsigned_abs())).max().unwrap();
+            assert_eq!(largest, shown(&mut random, &call), "{layer:?}");
+            *(if largest > load_limit(layer.field) { &mut above } else { &mut within }) += 1;
         }
     }
+    assert!(within >= 5 && above >= 3, "{within} within the limit, {above} above");
 }
 
 /// Every map of a layer within its peak.
@@ -220,15 +229,20 @@ fn every_map(layer: &Layer) -> impl Iterator<Item = Vec<i16>> {
         .map(move |map| (0..length).map(|place| (map / values.pow(place) % values) as i16 - peak).collect())
 }
 
-/// The rules that `worst_map` checks, and those that it does not.
+/// The rules that `worst_map` checks.
 const CHECKED: [usize; 14] = [1, 2, 3, 4, 5, 6, 7, 23, 8, 9, 10, 11, 14, 24];
-const UNCHECKED: [usize; 6] = [12, 13, 15, 25, 16, 17];
+
+/// The damages of these rules, and of 16, which is not checked. The other rules of a call are of what `worst_map` is not
+/// lent: an output, scratch, map values and an index.
+fn lent_damages() -> Vec<Damage> {
+    damages().into_iter().filter(|damage| CHECKED.contains(&damage.rule) || damage.rule == 16).collect()
+}
 
 /// Each damage alone and two at a time: the number of the first rule checked, and 29 where none is broken and the layer
-/// is TCONV or has no whole window; rules of a run that are not checked count for nothing.
+/// is TCONV or has no whole window. A load above the limit counts for nothing.
 #[test]
 fn damaged_calls() {
-    let damages = damages();
+    let damages = lent_damages();
     for trial in 0..12 {
         let mut random = Random::new("worst, damages", trial);
         let call = sound(&mut random, trial);
@@ -237,17 +251,15 @@ fn damaged_calls() {
             let mut damaged = call.clone();
             later.apply(&mut damaged);
             let answer = hold(&mut random, &damaged).0;
-            assert_eq!(answer, if CHECKED.contains(&later.rule) { later.rule } else { last }, "{}", later.name);
+            assert_eq!(answer, if later.rule == 16 { last } else { later.rule }, "{}", later.name);
             for earlier in damages.iter().filter(|earlier| place(earlier.rule) < place(later.rule)) {
                 let mut damaged = damaged.clone();
                 earlier.apply(&mut damaged);
-                let answer = hold(&mut random, &damaged).0;
-                let broken = [earlier.rule, later.rule].into_iter().find(|rule| CHECKED.contains(rule));
-                assert_eq!(answer, broken.unwrap_or(last), "{}, {}", earlier.name, later.name);
+                assert_eq!(hold(&mut random, &damaged).0, earlier.rule, "{}, {}", earlier.name, later.name);
             }
         }
     }
-    assert!(damages.iter().all(|damage| CHECKED.contains(&damage.rule) != UNCHECKED.contains(&damage.rule)));
+    assert!(CHECKED.iter().all(|&rule| damages.iter().any(|damage| damage.rule == rule)));
 }
 
 /// A call that every rule of a run accepts: of a CONV layer with a whole window, of one without, or of a TCONV layer.
@@ -264,7 +276,7 @@ fn sound(random: &mut Random, trial: usize) -> Call {
 /// Several damages at once, up to six, each of another rule; later rules are damaged first.
 #[test]
 fn several_damages_at_once() {
-    let damages = damages();
+    let damages = lent_damages();
     for trial in 0..3_000 {
         let mut random = Random::new("worst, several damages", trial);
         let mut call = sound(&mut random, trial);
@@ -290,7 +302,8 @@ fn blank_channel_before_no_window() {
 }
 
 /// The most channels, the largest map and the largest kernel, every weight -32,768 under the largest peak: the load is
-/// 64 times 121 times 32,768 times 32,767. Then a crop of the last output, and one of rows with no whole window.
+/// 64 times 121 times 32,768 times 32,767. Then crops of the last whole window, of the one after it, and of rows before the
+/// first.
 #[test]
 fn largest_layer() {
     let mut random = Random::new("worst, largest", 0);
@@ -309,6 +322,7 @@ fn largest_layer() {
     assert!(sums.iter().all(|&sum| sum == 64 * 121 * 32_768 * 32_767));
     let last = Layer { top: 127, left: 127, ..layer };
     assert_eq!(hold(&mut random, &Call { layer: last, ..call.clone() }).0, 0);
-    let cut = Layer { top: 0, left: 0, rows: 3, columns: full.columns, ..layer };
-    assert_eq!(hold(&mut random, &Call { layer: cut, ..call }).0, 29);
+    for none in [Layer { top: 128, ..last }, Layer { left: 128, ..last }, Layer { rows: 3, ..full }] {
+        assert_eq!(hold(&mut random, &Call { layer: none, ..call.clone() }).0, 29, "{none:?}");
+    }
 }
