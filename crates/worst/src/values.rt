@@ -54,12 +54,14 @@ fn weight_met(layer: Layer, kernel: &[i16], output: Output, c: usize, i: usize, 
     0
 }
 
-// Row i of map channel c.
-fn write_row(layer: Layer, kernel: &[i16], output: Output, c: usize, i: usize, map: &mut [i16])
-    requires { ⌜ MadeFor layer (now kernel) output × (c < layer .inputs) × (i < layer .height) × (length (now map) ≡ mapCount layer) ⌝ }
-    ensures { λ _. ⌜ Written (pos 0) (Run ((c * layer .height + i) * layer .width) (layer .width)) (valueAt layer (now (kernel .entry)) output) (now (map .entry)) (now (map .exit)) ⌝ }
+// One row of the map. Rows are counted over all channels: row `line` is row `line` % H of map channel `line` / H.
+fn write_row(layer: Layer, kernel: &[i16], output: Output, line: usize, map: &mut [i16])
+    requires { ⌜ MadeFor layer (now kernel) output × (line < layer .inputs * layer .height) × (length (now map) ≡ mapCount layer) ⌝ }
+    ensures { λ _. ⌜ Written (pos 0) (Run (line * layer .width) (layer .width)) (valueAt layer (now (kernel .entry)) output) (now (map .entry)) (now (map .exit)) ⌝ }
 {
-    let start = (c * layer.height + i) * layer.width;
+    let c = line / layer.height;
+    let i = line % layer.height;
+    let start = line * layer.width;
     let mut j = 0;
     while j < layer.width {
         let weight = weight_met(layer, kernel, output, c, i, j);
@@ -70,26 +72,15 @@ fn write_row(layer: Layer, kernel: &[i16], output: Output, c: usize, i: usize, m
     }
 }
 
-// Map channel c, row by row.
-fn write_plane(layer: Layer, kernel: &[i16], output: Output, c: usize, map: &mut [i16])
-    requires { ⌜ MadeFor layer (now kernel) output × (c < layer .inputs) × (length (now map) ≡ mapCount layer) ⌝ }
-    ensures { λ _. ⌜ Written (pos 0) (Run (c * layer .height * layer .width) (layer .height * layer .width)) (valueAt layer (now (kernel .entry)) output) (now (map .entry)) (now (map .exit)) ⌝ }
-{
-    let mut i = 0;
-    while i < layer.height {
-        write_row(layer, kernel, output, c, i, map);
-        i += 1;
-    }
-}
-
-// The whole map, channel by channel.
+// The whole map, row by row.
 pub(crate) fn write_map(layer: Layer, kernel: &[i16], output: Output, map: &mut [i16])
     requires { ⌜ MadeFor layer (now kernel) output × (length (now map) ≡ mapCount layer) ⌝ }
     ensures { λ _. ⌜ now (map .exit) ≡ mapFor layer (now (kernel .entry)) output ⌝ }
 {
-    let mut c = 0;
-    while c < layer.inputs {
-        write_plane(layer, kernel, output, c, map);
-        c += 1;
+    let lines = layer.inputs * layer.height;
+    let mut line = 0;
+    while line < lines {
+        write_row(layer, kernel, output, line, map);
+        line += 1;
     }
 }

@@ -1,7 +1,7 @@
 -- `write_row` writes value after value.
 use mathlib.Core.Path.{_≡_, sym, ap, _∙_}
-use Prim.Native.Nat.{ℕ, _+_, _*_, _-_, _<_, _≤_}
-use native.Mathlib.Nat.{mul-le-mul}
+use Prim.Native.Nat.{ℕ, _+_, _*_, _-_, _/_, _%_, _<_, _≤_}
+use native.Mathlib.Nat.{mul-le-mul, div-lt-iff-lt-mul, div-add-mod', mod-lt}
 use native.Mathlib.Omega.{arith}
 use borrow.Author.Needs.{needs, sfits-of}
 use denote.Ref.{now}
@@ -13,45 +13,53 @@ use mir.Syntax.{w16}
 use mir.Val.{toZ, ofZ}
 use Rattle.algebra.specs.Places.{Written, Run}
 use Rattle.algebra.specs.PlacesLaws.{written-nothing, written-longer}
+use Rattle.layer.specs.declared.shape.Layer.{Layer}
 use Rattle.worst.specs.Worst.{valueFor, valueAt}
 use Rattle.worst.specs.WorstLaws.{value-at}
 use Rattle.worst.proofs.values.write_row.Statement.{statement}
 use Rattle.worst.proofs.values.write_row.Tie as tie
 
 abbrev Inv-loop : tie.InvT-loop
-Inv-loop layer kernel output c i map₀ start j₀ map j =
-    (j ≤ layer .width) × Written (pos 0) (Run ((c * layer .height + i) * layer .width) j) (valueAt layer kernel output) map₀ map
+Inv-loop layer kernel output line map₀ c i start j₀ map j =
+    (j ≤ layer .width) × Written (pos 0) (Run (line * layer .width) j) (valueAt layer kernel output) map₀ map
 
 abbrev μ-loop : tie.MeasureT-loop
-μ-loop layer kernel output c i map₀ start j₀ map j = layer .width - j
+μ-loop layer kernel output line map₀ c i start j₀ map j = layer .width - j
 
--- the row lies in the map, which has at most 2^24 values
 module _ (s : tie.Start Inv-loop μ-loop) where
-  abbrev line : ℕ
-  line = s .args .c * s .args .layer .height + s .args .i
+  abbrev l : Layer
+  l = s .args .layer
 
-  line-in : line < s .args .layer .inputs * s .args .layer .height
-  line-in = digits-lt (s .pre .1) (s .pre .2)
+  some : 1 ≤ l .height
+  some = s .pre .0 .accepted .plan .shape .height-low
 
-  lines-high : s .args .layer .inputs * s .args .layer .height ≤ 32768
-  lines-high = let r = s .pre .0 .accepted .plan .shape in mul-le-mul {n₂ = 64} {m₂ = 512} (r .inputs-high) (r .height-high)
+  -- the row's channel and its row there
+  channel-in : s .args .line / l .height < l .inputs
+  channel-in = div-lt-iff-lt-mul some .1 (s .pre .1)
 
-  place-in : (j : ℕ) → j < s .args .layer .width → line * s .args .layer .width + j < length (now (s .args .map))
+  row-in : s .args .line % l .height < l .height
+  row-in = mod-lt (s .args .line) some
+
+  -- its places, of at most 2^24
+  place-in : (j : ℕ) → j < l .width → s .args .line * l .width + j < length (now (s .args .map))
   place-in j h =
-      let below : line * s .args .layer .width + j < s .args .layer .inputs * s .args .layer .height * s .args .layer .width = digits-lt line-in h in
-      omega (arith, s .pre .3)
+      let below : s .args .line * l .width + j < l .inputs * l .height * l .width = digits-lt (s .pre .1) h in
+      omega (arith, s .pre .2)
 
-  row-high : line * s .args .layer .width ≤ 16777216
-  row-high = mul-le-mul {n₂ = 32768} {m₂ = 512} (omega (arith, line-in, lines-high)) (s .pre .0 .accepted .plan .shape .width-high)
+  start-high : s .args .line * l .width ≤ 16777216
+  start-high =
+      let r = s .pre .0 .accepted .plan .shape in
+      let lines : l .inputs * l .height ≤ 32768 = mul-le-mul {n₂ = 64} {m₂ = 512} (r .inputs-high) (r .height-high) in
+      mul-le-mul {n₂ = 32768} {m₂ = 512} (omega (arith, s .pre .1)) (r .width-high)
+
+div-c : tie.Need-div-c Inv-loop μ-loop
+div-c c = let s : tie.Start Inv-loop μ-loop = search in omega (arith, some s)
+
+rem-i : tie.Need-rem-i Inv-loop μ-loop
+rem-i c = let s : tie.Start Inv-loop μ-loop = search in omega (arith, some s)
 
 mul-start : tie.Need-mul-start Inv-loop μ-loop
-mul-start c = let s : tie.Start Inv-loop μ-loop = search in omega (arith, line-in s, lines-high s)
-
-add-start : tie.Need-add-start Inv-loop μ-loop
-add-start c = let s : tie.Start Inv-loop μ-loop = search in omega (arith, line-in s, lines-high s)
-
-mul-start-2 : tie.Need-mul-start-2 Inv-loop μ-loop
-mul-start-2 c = let s : tie.Start Inv-loop μ-loop = search in omega (arith, row-high s)
+mul-start c = let s : tie.Start Inv-loop μ-loop = search in omega (arith, start-high s)
 
 loop-holds : tie.Need-loop-holds Inv-loop μ-loop
 loop-holds c = (omega arith, written-nothing (λ p h. omega arith))
@@ -60,7 +68,7 @@ weight-met-requires : tie.Need-weight-met-requires Inv-loop μ-loop
 weight-met-requires c κs =
     let s : tie.Start Inv-loop μ-loop = search in
     let turn : tie.Then1 Inv-loop μ-loop = search in
-    (s .pre .0, s .pre .1, s .pre .2, turn .if1 .taken)
+    (s .pre .0, channel-in s, row-in s, turn .if1 .taken)
 
 value-for-requires : tie.Need-value-for-requires Inv-loop μ-loop
 value-for-requires c κs = let s : tie.Start Inv-loop μ-loop = search in s .pre .0 .accepted .weights .peak-most
@@ -69,13 +77,13 @@ add-place : tie.Need-add-place Inv-loop μ-loop
 add-place c =
     let s : tie.Start Inv-loop μ-loop = search in
     let turn : tie.Then1 Inv-loop μ-loop = search in
-    omega (arith, row-high s, turn .if1 .taken, s .pre .0 .accepted .plan .shape .width-high)
+    omega (arith, start-high s, turn .if1 .taken, s .pre .0 .accepted .plan .shape .width-high)
 
 mul-value : tie.Need-mul-value Inv-loop μ-loop
 mul-value c =
     let s : tie.Start Inv-loop μ-loop = search in
     let turn : tie.Then1 Inv-loop μ-loop = search in
-    omega (arith, row-high s, turn .if1 .taken, s .pre .0 .accepted .plan .shape .width-high)
+    omega (arith, start-high s, turn .if1 .taken, s .pre .0 .accepted .plan .shape .width-high)
 
 slice-set-from-value : tie.Need-slice-set-from-value Inv-loop μ-loop
 slice-set-from-value c =
@@ -99,10 +107,11 @@ loop-again c =
     let made : tie.After-value-for Inv-loop μ-loop = search in
     let weighed : tie.After-weight-met Inv-loop μ-loop = search in
     let word = toZ-ofZ (sfits-of (weighed .weight-met .ok)) in
-    let is : toZ w16 (ofZ w16 (made .value-for .result)) ≡ valueAt (a .layer) (now (a .kernel)) (a .output) (line s * a .layer .width + at .loop .j) =
-    toZ-ofZ (sfits-of (made .value-for .ok)) ∙ made .value-for .ensures ∙ ap (valueFor (a .layer .peak)) (word ∙ weighed .weight-met .ensures)
-    ∙ sym (value-at (a .layer) (now (a .kernel)) (a .output) (a .c) (a .i) (at .loop .j) (s .pre .2) (turn .if1 .taken)) in
-    (omega arith, written-longer (line s * a .layer .width) (at .loop .j) _ (place-in s _ (turn .if1 .taken)) (at .loop .inv .1) is)
+    let is : toZ w16 (ofZ w16 (made .value-for .result)) ≡ valueAt (l s) (now (a .kernel)) (a .output) (a .line * l s .width + at .loop .j) =
+    toZ-ofZ (sfits-of (made .value-for .ok)) ∙ made .value-for .ensures ∙ ap (valueFor (l s .peak)) (word ∙ weighed .weight-met .ensures)
+    ∙ sym (value-at (l s) (now (a .kernel)) (a .output) (a .line / l s .height) (a .line % l s .height) (at .loop .j) (row-in s) (turn .if1 .taken))
+    ∙ ap (λ (n : ℕ). valueAt (l s) (now (a .kernel)) (a .output) (n * l s .width + at .loop .j)) (div-add-mod' (a .line) (l s .height)) in
+    (omega arith, written-longer (a .line * l s .width) (at .loop .j) _ (place-in s _ (turn .if1 .taken)) (at .loop .inv .1) is)
 
 same-length : tie.Need-same-length Inv-loop μ-loop
 same-length c = search needs
@@ -111,7 +120,7 @@ returns : tie.Need-returns Inv-loop μ-loop
 returns c =
     let at : tie.At-loop Inv-loop μ-loop = search in
     let s : tie.Start Inv-loop μ-loop = search in
-    let last : at .loop .j ≡ s .args .layer .width = omega arith in
+    let last : at .loop .j ≡ l s .width = omega arith in
     rw last at (at .loop .inv .1)
 
 pub write-row-spec : {M : Type 1} → statement M
@@ -120,9 +129,9 @@ write-row-spec =
     (tie.spec
     Inv-loop
     μ-loop
+    div-c
+    rem-i
     mul-start
-    add-start
-    mul-start-2
     loop-holds
     weight-met-requires
     value-for-requires
