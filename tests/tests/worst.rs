@@ -35,8 +35,7 @@ fn shown(random: &mut Random, call: &Call) -> u128 {
     let (answer, map) = hold(random, call);
     assert_eq!(answer, 0, "{:?}", call.layer);
     let load = greatest_load(call).1;
-    let run = Call { map, ..draw::call(random, call.layer) };
-    let run = Call { kernel: call.kernel.clone(), ..run };
+    let run = Call { map, kernel: call.kernel.clone(), ..draw::call(random, call.layer) };
     let sums = if load > load_limit(call.layer.field) {
         let mut buffers = draw::buffers(random, &run);
         assert_eq!(checked::run(&run, &mut buffers, None).number, 16, "{:?}", call.layer);

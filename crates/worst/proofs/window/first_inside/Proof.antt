@@ -16,7 +16,7 @@ module _ (begun : tie.After-first-begun) where
   abbrev start : tie.Start
   start = begun .before
 
-  -- the laws are applied to what is asked, row `begun`
+  -- which row that is
   abbrev is-begun : begun .first-begun .result ≡ ceilingDiv (start .args .layer .padding) (start .args .layer .stride) - start .args .start
   is-begun = begun .first-begun .ensures
 
