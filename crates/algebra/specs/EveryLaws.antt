@@ -1,5 +1,5 @@
--- Laws of tests: both of two, and `every`: one number more, what it says of one of them, that it holds where all pass, equal tests, and summands
--- that are all 0.
+-- Laws of tests: both of two, one that cannot pass, and `every`: one number more, what it says of one of them, that it holds where all pass, equal
+-- tests, and summands that are all 0.
 use mathlib.Core.Path.{_≡_, refl, sym, ap, ap₂, _∙_, subst}
 use mathlib.Core.Bool.{Bool, true, false, _&&_}
 use Prim.Native.Nat.{ℕ, zero, suc, _+_, _<_}
@@ -16,6 +16,11 @@ use Rattle.algebra.specs.Sum.{sum}
 pub both-true : (a b : Bool) → a && b ≡ true → (a ≡ true) × (b ≡ true)
 both-true true b e = (refl, e)
 both-true false b e = absurd (subst T (sym e) tt)
+
+-- a test that cannot pass
+pub test-fails : (t : Bool) → (t ≡ true → ⊥) → t ≡ false
+test-fails true h = absurd (h refl)
+test-fails false h = refl
 
 -- one number more
 pub every-next : (test : ℕ → Bool) (n : ℕ) → every n test && test n ≡ every (n + 1) test

@@ -2,7 +2,7 @@
 -- map value is beyond the peak, and by the side of the first such value; 01's case 13 is one instance. It rests on the laws of lists of rules and on
 -- those of the first value beyond the peak.
 use mathlib.Core.Path.{_≡_, refl, sym, ap, _∙_}
-use mathlib.Core.Bool.{Bool, true, false, cond, true≢false}
+use mathlib.Core.Bool.{true, false, cond, true≢false}
 use mathlib.Core.List.{List, [], _∷_, _++_}
 use mathlib.Core.Logic.{⊎-elim}
 use Prim.Native.Nat.{ℕ, zero, suc, _≤_, _<_}
@@ -11,6 +11,7 @@ use lib.Dec.{eqb}
 use lib.IntN.{ℤ, negsuc}
 use lib.ListN.{length}
 use borrow.Author.Tests.{eqb-true}
+use Rattle.algebra.specs.EveryLaws.{test-fails}
 use Rattle.base.specs.Rules.{Rule, firstBroken}
 use Rattle.base.specs.RulesLaws.{none-broken, both-accept, first-answers, second-answers, inside-high}
 use Rattle.layer.specs.declared.shape.Layer.{Layer}
@@ -65,13 +66,9 @@ module _ (engine : Engine) (l : Layer) (map kernel : List ℤ) (output scratch :
 
     -- and some value is beyond the peak: the rules after have other numbers too
     placed-beyond : isPlaced code ≡ true → withinPeak (l .peak) map ≡ false
-    placed-beyond placed = by-test (withinPeak (l .peak) map) refl
-      where
-        by-test : (t : Bool) → withinPeak (l .peak) map ≡ t → t ≡ false
-        by-test true e =
-            let answers : code ≡ firstBroken later = from-map (placed-passes placed) ∙ rw (offender-none l map e) in
-            absurd (true≢false (sym placed ∙ ap isPlaced answers ∙ not-placed later tt))
-        by-test false e = refl
+    placed-beyond placed = test-fails (withinPeak (l .peak) map) (λ e.
+        let answers : code ≡ firstBroken later = from-map (placed-passes placed) ∙ rw (offender-none l map e) in
+        true≢false (sym placed ∙ ap isPlaced answers ∙ not-placed later tt))
 
     -- the value is then what the request says
     pub placed-offends : Lawful engine → isPlaced code ≡ true → Offends l map (offenderOf l map)

@@ -17,7 +17,7 @@ use Rattle.algebra.specs.DoubleSums.{sum2, sum2-cong, sum2-mul, sum2-mul-right,
 use Rattle.layer.specs.Shape.{convSize}
 use Rattle.layer.specs.ShapeLaws.{window-fits}
 use Rattle.layer.specs.Direct.{within, shifted, conv}
-use Rattle.layer.specs.WindowLaws.{Matching, exchange-product, within-is, within-yes, when-yes}
+use Rattle.layer.specs.WindowLaws.{Matching, exchange-product, within-is, within-yes, shifted-cell}
 use Rattle.joined.specs.Joined.{joinedWeight}
 
 -- place a of the joined kernel and place p of the second one, where place i of the first and p add up to a
@@ -39,8 +39,7 @@ shifted-inside : (A B : ℕ) (values : List ℤ) (k u v : ℕ) → u < A → v <
 shifted-inside A B values k u v row column =
     let down : u - 0 ≡ u = omega arith in
     let across : v - 0 ≡ v = omega arith in
-    when-yes (within 0 A u) _ (within-yes 0 A u (omega arith) (omega arith))
-    ∙ when-yes (within 0 B v) _ (within-yes 0 B v (omega arith) (omega arith)) ∙ rw (down, across)
+    shifted-cell A B values k 0 u 0 v (omega arith) (omega arith) (omega arith) (omega arith) ∙ rw (down, across)
 
 -- K, L: the sides of the first and of the second kernel
 module _ (K L : ℕ) where

@@ -17,7 +17,7 @@ module _ (l : Layer) (r : InRange l) where
   pub weights-high : l .side * l .side ≤ 121
   weights-high = mul-le-mul {n₂ = 11} {m₂ = 11} (r .side-high) (r .side-high)
 
-  planes-high : l .outputs * l .inputs ≤ 4096
+  pub planes-high : l .outputs * l .inputs ≤ 4096
   planes-high = mul-le-mul {n₂ = 64} {m₂ = 64} (r .outputs-high) (r .inputs-high)
 
   pub kernel-high : kernelCount l ≤ 495616

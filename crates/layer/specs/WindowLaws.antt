@@ -3,16 +3,18 @@
 -- the laws of sums.
 use mathlib.Core.Path.{_≡_, refl, sym, ap, _∙_}
 use mathlib.Core.Bool.{Bool, true, false, _&&_}
+use mathlib.Core.List.{List}
 use Prim.Native.Nat.{ℕ, _+_, _*_, _-_, _/_, _%_, _<_, _≤_}
 use native.Mathlib.Nat.{div-add-mod', mul-mod-left, mul-div-cancel}
 use native.Mathlib.Omega.{arith}
 use mir.Facts.{and-yes, yes-and}
 use lib.Dec.{T, leb, ltb, eqb, leb→le, le→leb, ltb→lt, lt→ltb, eqb→eq, eqb-refl}
 use lib.IntN.{ℤ, pos, _*ℤ_, *ℤ-zero, *ℤ-comm}
+use Rattle.algebra.specs.Planes.{cell}
 use Rattle.algebra.specs.Sum.{sumZ}
 use Rattle.algebra.specs.SumLaws.{integers, sum-cong, sum-zero, sum-single, sum-swap}
 use Rattle.layer.specs.Windows.{spread}
-use Rattle.layer.specs.Direct.{when, within}
+use Rattle.layer.specs.Direct.{when, within, shifted}
 
 -- ---- a value under a test
 
@@ -107,6 +109,12 @@ within-is p n u t =
 
 pub within-yes : (p n u : ℕ) → p ≤ u → u - p < n → T (within p n u)
 within-yes p n u h k = yes-and (leb p u) (ltb (u - p) n) (le→leb p u h) (lt→ltb (u - p) n k)
+
+-- a value inside its plane
+pub shifted-cell : (A B : ℕ) (values : List ℤ) (k p u q v : ℕ) → p ≤ u → u - p < A → q ≤ v → v - q < B
+    → shifted A B values k p u q v ≡ cell A B values k (u - p) (v - q)
+shifted-cell A B values k p u q v row rowEnd column columnEnd =
+    when-yes (within p A u) _ (within-yes p A u row rowEnd) ∙ when-yes (within q B v) _ (within-yes q B v column columnEnd)
 
 -- a window of K places from s on, and H places from p on
 pub window : (K H s p : ℕ) → Matching K H (λ a. within p H (s + a)) (λ a. s + a - p) (λ i. within s K (i + p)) (λ i. i + p - s)

@@ -1,7 +1,7 @@
 -- What the answer 0 says of a layer and its kernel; that a call which breaks no earlier rule is answered 29 exactly where there is no window to show;
 -- and the theorem of an accepted call. It rests on the laws of lists of rules and of the worst map.
-use mathlib.Core.Path.{_≡_, refl, sym, ap, _∙_}
-use mathlib.Core.Bool.{Bool, true, false, _&&_, cond}
+use mathlib.Core.Path.{_≡_, sym, ap, _∙_}
+use mathlib.Core.Bool.{Bool, true, _&&_, cond}
 use mathlib.Core.List.{List, [], _∷_, _++_}
 use mathlib.Core.Logic.{_↔_}
 use Prim.Native.Nat.{ℕ, _≤_}
@@ -9,7 +9,7 @@ use native.Mathlib.Omega.{arith}
 use borrow.Author.Tests.{eqb-true, eq-eqb}
 use lib.IntN.{ℤ}
 use lib.ListN.{length}
-use Rattle.algebra.specs.EveryLaws.{both-true}
+use Rattle.algebra.specs.EveryLaws.{both-true, test-fails}
 use Rattle.base.specs.Rules.{firstBroken, rulesBefore}
 use Rattle.base.specs.RulesLaws.{none-broken, both-accept, second-answers, inside-high, outcome-made}
 use Rattle.layer.specs.declared.shape.Layer.{Layer}
@@ -42,7 +42,7 @@ windowed l = (to, from)
 pub none-windowed : (l : Layer) (kernel : List ℤ) (room : ℕ) → firstBroken (rulesBefore 29 (worstRules l kernel room)) ≡ 0
     → (worstCode l kernel room ≡ 29) ↔ (Windowed l → ⊥)
 unfolding worstCode
-none-windowed l kernel room passed = (to, from (isConv l && hasWhole l) refl)
+none-windowed l kernel room passed = (to, from)
   where
     decided : worstCode l kernel room ≡ cond (isConv l && hasWhole l) 0 29
     decided = second-answers (rulesBefore 29 (worstRules l kernel room)) (windowRule l ∷ []) tt passed
@@ -50,9 +50,8 @@ none-windowed l kernel room passed = (to, from (isConv l && hasWhole l) refl)
     to : worstCode l kernel room ≡ 29 → Windowed l → ⊥
     to e w = omega (arith, sym e ∙ decided ∙ ap (λ (t : Bool). cond t 0 29) (windowed l .1 w))
 
-    from : (t : Bool) → isConv l && hasWhole l ≡ t → (Windowed l → ⊥) → worstCode l kernel room ≡ 29
-    from true e none = absurd (none (windowed l .0 e))
-    from false e none = decided ∙ ap (λ (t : Bool). cond t 0 29) e
+    from : (Windowed l → ⊥) → worstCode l kernel room ≡ 29
+    from none = decided ∙ ap (λ (t : Bool). cond t 0 29) (test-fails (isConv l && hasWhole l) (λ e. none (windowed l .0 e)))
 
 -- what the rules give
 pub accepted : (l : Layer) (kernel : List ℤ) (room : ℕ) → worstCode l kernel room ≡ 0 → Accepted l kernel × (room ≡ mapCount l)

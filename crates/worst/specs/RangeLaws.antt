@@ -1,8 +1,8 @@
 -- The theorem of the range check: of CONV layers with a whole window, a run of any engine that passes every earlier check answers 16 exactly where
 -- some map of its length within the peak has an output larger in size than the limit. The worst map is such a map if there is one; the load bounds
 -- the outputs of all maps. And `worst_map` accepts the layer of every such run, so that it shows the refusal.
-use mathlib.Core.Path.{_≡_, refl, sym, ap, _∙_}
-use mathlib.Core.Bool.{Bool, true, false, cond}
+use mathlib.Core.Path.{_≡_, sym, ap, _∙_}
+use mathlib.Core.Bool.{Bool, true, cond}
 use mathlib.Core.List.{List, [], _∷_, _++_}
 use mathlib.Core.Logic.{_↔_, _⊎_, inr}
 use Prim.Native.Nat.{ℕ, _*_, _<_, _≤_}
@@ -12,6 +12,7 @@ use native.Mathlib.Omega.{arith}
 use borrow.Author.Tests.{eqb-true}
 use lib.IntN.{ℤ, natAbs}
 use lib.ListN.{length}
+use Rattle.algebra.specs.EveryLaws.{test-fails}
 use Rattle.algebra.specs.GreatestLaws.{greatest-at, first-greatest-below, first-greatest-at}
 use Rattle.base.specs.Rules.{Rule, rulesBefore}
 use Rattle.base.specs.RulesLaws.{none-broken, all-hold, both-accept, second-answers, before-holds}
@@ -100,11 +101,9 @@ module _ {engine : Engine} (lawful : Lawful engine) (l : Layer) (map kernel : Li
 
     -- of every layer: what exceeds the limit is refused
     pub exceeding-refused : Exceeds l kernel (length map) → runCode engine l map kernel output scratch ≡ 16
-    exceeding-refused b = decided ∙ ap (λ (t : Bool). cond t 0 16) (go (loadsFit l kernel) refl)
-      where
-        go : (t : Bool) → loadsFit l kernel ≡ t → t ≡ false
-        go false e = refl
-        go true e = absurd (omega (arith, b .larger, output-most l (b .map) kernel plan (b .bounded) (b .place) (b .kept), fit-decides .0 e))
+    exceeding-refused b =
+        let most = output-most l (b .map) kernel plan (b .bounded) (b .place) (b .kept) in
+        decided ∙ ap (λ (t : Bool). cond t 0 16) (test-fails (loadsFit l kernel) (λ fit. omega (arith, b .larger, most, fit-decides .0 fit)))
 
     pub range-law : Windowed l → (runCode engine l map kernel output scratch ≡ 16) ↔ Exceeds l kernel (length map)
     range-law window = (to window, exceeding-refused)

@@ -1,15 +1,15 @@
 -- Laws of whole windows: in one direction the first window inside the map is the first that does not begin before it, or there is none; in both
 -- directions the first whole window of the crop stands in the first such row and the first such column. They rest on the laws of the first number
 -- that passes a test and of the quotient rounded up.
-use mathlib.Core.Path.{_≡_, refl, sym, ap, _∙_}
-use mathlib.Core.Bool.{Bool, true, false, _&&_}
+use mathlib.Core.Path.{_≡_, sym, ap, _∙_}
+use mathlib.Core.Bool.{Bool, true, _&&_}
 use Prim.Native.Nat.{ℕ, _+_, _*_, _-_, _/_, _%_, _<_, _≤_}
 use native.Mathlib.Nat.{mul-le-mul, mul-le-mul-right}
 use native.Mathlib.Omega.{arith}
 use borrow.Author.Tests.{ltb-true, lt-ltb, leb-true, le-leb}
 use lib.Arith.{digits-lt, digits-div, digits-mod}
 use lib.Dec.{leb, ltb}
-use Rattle.algebra.specs.EveryLaws.{both-true, every-at, every-from}
+use Rattle.algebra.specs.EveryLaws.{both-true, test-fails, every-at, every-from}
 use Rattle.algebra.specs.FirstLaws.{first-is, first-none, first-passes, first-least, first-both, found-each, found-both}
 use Rattle.base.specs.Number.{ceilingDiv}
 use Rattle.base.specs.NumberLaws.{ceiling-le, le-ceiling}
@@ -17,11 +17,6 @@ use Rattle.layer.specs.declared.shape.Layer.{Layer}
 use Rattle.layer.specs.Direct.{within}
 use Rattle.layer.specs.Planned.{InRange}
 use Rattle.worst.specs.Window.{insideAt, firstInside, wholeAt, firstWhole, hasWhole, wholeRow, wholeColumn, Whole}
-
--- a test that cannot pass
-fails : (t : Bool) → (t ≡ true → ⊥) → t ≡ false
-fails true h = absurd (h refl)
-fails false h = refl
 
 -- ---- one window in one direction
 
@@ -75,12 +70,12 @@ module _ (l : Layer) (extent start count : ℕ) (strided : 1 ≤ l .stride) (som
   pub first-inside-found : begun < count → (start + begun) * l .stride + l .side ≤ extent + l .padding → firstInside l extent start count ≡ begun
   unfolding firstInside
   first-inside-found below end = first-is count (λ i. insideAt l extent (start + i)) begun below (inside-where l extent (start + begun) begins end)
-      (λ i h. fails (insideAt l extent (start + i)) (λ w. omega (arith, not-before i w)))
+      (λ i h. test-fails (insideAt l extent (start + i)) (λ w. omega (arith, not-before i w)))
 
   -- none, where the crop ends before that row or its window after the map
   none : ((i : ℕ) → i < count → insideAt l extent (start + i) ≡ true → ⊥) → firstInside l extent start count ≡ count
   unfolding firstInside
-  none h = first-none count _ (λ i k. fails (insideAt l extent (start + i)) (h i k))
+  none h = first-none count _ (λ i k. test-fails (insideAt l extent (start + i)) (h i k))
 
   pub first-inside-cut : count ≤ begun → firstInside l extent start count ≡ count
   first-inside-cut h = none (λ i k w. omega (arith, not-before i w))

@@ -23,7 +23,7 @@ use Rattle.layer.specs.declared.shape.Layer.{Layer}
 use Rattle.layer.specs.Shape.{mapCount}
 use Rattle.layer.specs.Direct.{when, within, shifted, planeOf, fullAt}
 use Rattle.layer.specs.Windows.{weighed, metBy}
-use Rattle.layer.specs.WindowLaws.{when-yes, within-yes}
+use Rattle.layer.specs.WindowLaws.{shifted-cell}
 use Rattle.layer.specs.WeighedLaws.{full-weighed}
 use Rattle.load.specs.Load.{sizeTotal, load, withinPeak}
 use Rattle.load.specs.LoadLaws.{load-conv, peak-from}
@@ -68,12 +68,6 @@ times-value (suc peak) (negsuc n) = ap pos (omega arith)
 -- a sum of numbers from 0 up
 sum-pos : (n : ℕ) (g : ℕ → ℕ) → sumZ n (λ i. pos (g i)) ≡ pos (sum n g)
 sum-pos n g = sum-map naturals integers pos refl (λ x y. refl) n g
-
--- a value inside its plane
-shifted-cell : (A B : ℕ) (values : List ℤ) (k p u q v : ℕ) → p ≤ u → u - p < A → q ≤ v → v - q < B
-    → shifted A B values k p u q v ≡ cell A B values k (u - p) (v - q)
-shifted-cell A B values k p u q v row rowEnd column columnEnd =
-    when-yes (within p A u) _ (within-yes p A u row rowEnd) ∙ when-yes (within q B v) _ (within-yes q B v column columnEnd)
 
 -- ---- the weight that meets a place
 

@@ -10,6 +10,7 @@ use lib.Arith.{digits-lt}
 use lib.ListN.{length}
 use mir.Facts.{toZ-ofZ}
 use Rattle.algebra.specs.EveryLaws.{both-true}
+use Rattle.layer.specs.CountLaws.{planes-high, kernel-high}
 use Rattle.layer.specs.declared.shape.Layer.{Layer}
 use Rattle.layer.specs.WindowLaws.{within-is}
 use Rattle.worst.specs.WindowLaws.{window-begins}
@@ -44,12 +45,8 @@ module _ (s : tie.Start) where
   left-high : left ≤ 8232
   left-high = let p = s .pre .0 .accepted .plan in window-begins l (p .shape) _ (omega (arith, s .pre .0 .column-in, p .full-width-high))
 
-  kernel-high : length (now (s .args .kernel)) ≤ 495616
-  kernel-high =
-      let r = s .pre .0 .accepted .plan .shape in
-      let planes : l .outputs * l .inputs ≤ 4096 = mul-le-mul {n₂ = 64} {m₂ = 64} (r .outputs-high) (r .inputs-high) in
-      let square : l .side * l .side ≤ 121 = mul-le-mul {n₂ = 11} {m₂ = 11} (r .side-high) (r .side-high) in
-      omega (arith, s .pre .0 .accepted .weights .weights, mul-le-mul planes square)
+  weights-most : length (now (s .args .kernel)) ≤ 495616
+  weights-most = omega (arith, s .pre .0 .accepted .weights .weights, kernel-high l (s .pre .0 .accepted .plan .shape))
 
 -- the two tests together
 met : (c : tie.After-is-within2) → let a = start (c .before) .args in
@@ -78,9 +75,7 @@ module _ (c : tie.Then1) where
   line = plane * l call .side + (row call - top call)
 
   plane-in : (plane < l call .outputs * l call .inputs) × (l call .outputs * l call .inputs ≤ 4096)
-  plane-in =
-      let r = call .pre .0 .accepted .plan .shape in
-      (digits-lt (call .pre .0 .channel-in) (call .pre .1), mul-le-mul {n₂ = 64} {m₂ = 64} (r .outputs-high) (r .inputs-high))
+  plane-in = (digits-lt (call .pre .0 .channel-in) (call .pre .1), planes-high _ (call .pre .0 .accepted .plan .shape))
 
   line-in : (line < l call .outputs * l call .inputs * l call .side) × (l call .outputs * l call .inputs * l call .side ≤ 45056)
   line-in = (digits-lt (plane-in .0) (in-row .1), mul-le-mul {n₂ = 4096} {m₂ = 11} (plane-in .1) (call .pre .0 .accepted .plan .shape .side-high))
@@ -125,13 +120,13 @@ add-line : tie.Need-add-line
 add-line c = let in-window : tie.Then1 = search in omega (arith, line-in in-window)
 
 mul-result : tie.Need-mul-result
-mul-result c = let in-window : tie.Then1 = search in omega (arith, place-in in-window, kernel-high (call in-window))
+mul-result c = let in-window : tie.Then1 = search in omega (arith, place-in in-window, weights-most (call in-window))
 
 sub-result : tie.Need-sub-result
 sub-result c = let in-window : tie.Then1 = search in in-column in-window .0
 
 add-result : tie.Need-add-result
-add-result c = let in-window : tie.Then1 = search in omega (arith, place-in in-window, kernel-high (call in-window))
+add-result c = let in-window : tie.Then1 = search in omega (arith, place-in in-window, weights-most (call in-window))
 
 mul-result-2 : tie.Need-mul-result-2
 mul-result-2 c = let in-window : tie.Then1 = search in scaled-fits _ _ 2 (place-in in-window) (call in-window .good .1 .0 .1)

@@ -1,13 +1,13 @@
 -- `write_map` writes row after row: each is a run that begins where the rows before it end, so that in the end every place of the map is written.
 use mathlib.Core.Path.{_≡_, _∙_}
 use Prim.Native.Nat.{_+_, _*_, _-_, _≤_}
-use native.Mathlib.Nat.{mul-le-mul}
 use native.Mathlib.Omega.{arith}
 use borrow.Author.Needs.{needs}
 use denote.Ref.{now}
 use lib.IntN.{pos}
 use Rattle.algebra.specs.Places.{Written, Run}
 use Rattle.algebra.specs.PlacesLaws.{table-of, written-nothing, written-further}
+use Rattle.layer.specs.CountLaws.{map-rows-high}
 use Rattle.layer.specs.Shape.{mapCount}
 use Rattle.worst.specs.Worst.{valueAt}
 use Rattle.worst.proofs.values.write_map.Statement.{statement}
@@ -15,26 +15,26 @@ use Rattle.worst.proofs.values.write_map.Tie as tie
 
 abbrev Inv-loop : tie.InvT-loop
 Inv-loop layer kernel output map₀ lines line₀ map line =
-    (line ≤ layer .inputs * layer .height) × Written (pos 0) (Run 0 (line * layer .width)) (valueAt layer kernel output) map₀ map
+    Written (pos 0) (Run 0 (line * layer .width)) (valueAt layer kernel output) map₀ map × (line ≤ layer .inputs * layer .height)
 
 abbrev μ-loop : tie.MeasureT-loop
 μ-loop layer kernel output map₀ lines line₀ map line = layer .inputs * layer .height - line
 
 lines-high : (s : tie.Start Inv-loop μ-loop) → s .args .layer .inputs * s .args .layer .height ≤ 32768
-lines-high s = let r = s .pre .0 .accepted .plan .shape in mul-le-mul {n₂ = 64} {m₂ = 512} (r .inputs-high) (r .height-high)
+lines-high s = map-rows-high _ (s .pre .0 .accepted .plan .shape)
 
 mul-lines : tie.Need-mul-lines Inv-loop μ-loop
 mul-lines c = let s : tie.Start Inv-loop μ-loop = search in omega (arith, lines-high s)
 
 loop-holds : tie.Need-loop-holds Inv-loop μ-loop
-loop-holds c = (omega arith, written-nothing (λ p h. omega arith))
+loop-holds c = (written-nothing (λ p h. omega arith), omega arith)
 
 write-row-requires : tie.Need-write-row-requires Inv-loop μ-loop
 write-row-requires c κs =
     let s : tie.Start Inv-loop μ-loop = search in
     let at : tie.At-loop Inv-loop μ-loop = search in
     let turn : tie.In-loop Inv-loop μ-loop = search in
-    (s .pre .0, turn .loop-test .taken, at .loop .inv .1 .same-length ∙ s .pre .1)
+    (s .pre .0, turn .loop-test .taken, at .loop .inv .0 .same-length ∙ s .pre .1)
 
 add-line : tie.Need-add-line Inv-loop μ-loop
 add-line c =
@@ -52,7 +52,7 @@ loop-again c =
     let row : tie.After-write-row Inv-loop μ-loop = search in
     let W = s .args .layer .width in
     let longer : (at .loop .line + 1) * W ≡ at .loop .line * W + W = omega arith in
-    (omega arith, rw longer (written-further 0 (at .loop .line * W) W (omega arith) (at .loop .inv .1) (row .write-row .ensures)))
+    (rw longer (written-further 0 (at .loop .line * W) W (omega arith) (at .loop .inv .0) (row .write-row .ensures)), omega arith)
 
 same-length : tie.Need-same-length Inv-loop μ-loop
 same-length c = search needs
@@ -63,7 +63,7 @@ returns c =
     let s : tie.Start Inv-loop μ-loop = search in
     let l = s .args .layer in
     let last : at .loop .line ≡ l .inputs * l .height = omega arith in
-    let w = rw last at (at .loop .inv .1) in
+    let w = rw last at (at .loop .inv .0) in
     table-of (pos 0) (mapCount l) (valueAt l (now (s .args .kernel)) (s .args .output)) (at .loop .map) (w .same-length ∙ s .pre .1)
     (λ p h. w .here p (omega (arith, s .pre .1)) (omega arith, omega arith))
 

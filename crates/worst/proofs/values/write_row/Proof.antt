@@ -1,7 +1,7 @@
 -- `write_row` writes value after value.
 use mathlib.Core.Path.{_≡_, sym, ap, _∙_}
 use Prim.Native.Nat.{ℕ, _+_, _*_, _-_, _/_, _%_, _<_, _≤_}
-use native.Mathlib.Nat.{mul-le-mul, div-lt-iff-lt-mul, div-add-mod', mod-lt}
+use native.Mathlib.Nat.{div-lt-iff-lt-mul, div-add-mod', mod-lt}
 use native.Mathlib.Omega.{arith}
 use borrow.Author.Needs.{needs, sfits-of}
 use denote.Ref.{now}
@@ -13,6 +13,7 @@ use mir.Syntax.{w16}
 use mir.Val.{toZ, ofZ}
 use Rattle.algebra.specs.Places.{Written, Run}
 use Rattle.algebra.specs.PlacesLaws.{written-nothing, written-longer}
+use Rattle.layer.specs.CountLaws.{map-high}
 use Rattle.layer.specs.declared.shape.Layer.{Layer}
 use Rattle.worst.specs.Worst.{valueFor, valueAt}
 use Rattle.worst.specs.WorstLaws.{value-at}
@@ -47,10 +48,7 @@ module _ (s : tie.Start Inv-loop μ-loop) where
       omega (arith, s .pre .2)
 
   start-high : s .args .line * l .width ≤ 16777216
-  start-high =
-      let r = s .pre .0 .accepted .plan .shape in
-      let lines : l .inputs * l .height ≤ 32768 = mul-le-mul {n₂ = 64} {m₂ = 512} (r .inputs-high) (r .height-high) in
-      mul-le-mul {n₂ = 32768} {m₂ = 512} (omega (arith, s .pre .1)) (r .width-high)
+  start-high = let r = s .pre .0 .accepted .plan .shape in omega (arith, place-in 0 (r .width-low), s .pre .2, map-high l r)
 
 div-c : tie.Need-div-c Inv-loop μ-loop
 div-c c = let s : tie.Start Inv-loop μ-loop = search in omega (arith, some s)
