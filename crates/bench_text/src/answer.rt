@@ -10,6 +10,7 @@ ghost use Rattle.words.specs.Reading.{BodyRead};
 ghost use Rattle.lines.specs.Writing.{Appended};
 ghost use Rattle.bench_text.specs.Printed.{small, ran, bodyPrinted, printed};
 use base::number::lesser;
+use checks::method::Method;
 use checks::planner::plan_code;
 use layer::numbers::layer_of;
 use layer::shape::Layer;
@@ -133,7 +134,7 @@ pub fn answer(lines: &mut [u8; 16384], input: &[u8]) -> usize
         return lines::put_unreadable(lines, 0);
     }
     let layer = layer_of(&numbers);
-    let code = plan_code(layer);
+    let code = plan_code(Method::Tiles, layer);
     if code != 0 {
         return lines::put_numbered(lines, 0, b"refused", code);
     }

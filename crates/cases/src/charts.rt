@@ -107,7 +107,7 @@ fn loads() {
 // The number of the case and the planner's answer.
 fn plan_case(number: u64, layer: Layer) {
     let figures = plan(layer);
-    print::case(number, figures.code as u64, figures.tiles as u64);
+    print::case(number, figures.code as u64, figures.parts as u64);
 }
 
 // Cases 10 and 11, and the heights of case 13.

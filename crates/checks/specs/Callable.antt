@@ -14,6 +14,7 @@ use Rattle.checks.specs.Engine.{Engine}
 
 pub record Callable (engine : Engine) (l : Layer) (map kernel : List ℤ) (output scratch : ℕ) : Type 0 where
   pub plan : Planned l
+  pub field-taken : l .field ≤ engine .last-field
   pub map-length : length map ≡ mapCount l
   pub kernel-length : length kernel ≡ kernelCount l
   pub output-length : output ≡ outputCount l

@@ -92,10 +92,10 @@ module _ (engine : Engine) where
     code = 0;
     height = fullHeight l;
     width = fullWidth l;
-    tiles = engine .total l;
+    parts = engine .total l;
     scratch = engine .words l;
   }
-  figures (suc code) l = record { code = suc code; height = 0; width = 0; tiles = 0; scratch = 0 }
+  figures (suc code) l = record { code = suc code; height = 0; width = 0; parts = 0; scratch = 0 }
 
   unfoldable pub planOf : Layer → Plan
   planOf l = figures (planCode l) l

@@ -71,13 +71,20 @@ planned {engine} lawful l e =
       full-width-high = full-high l (l .width) (l .beside) (width-extent l r);
     }
 
+-- the field is one that the engine takes
+pub field-taken : (engine : Engine) (l : Layer) → planCode engine l ≡ 0 → l .field ≤ engine .last-field
+unfolding planCode
+field-taken engine l e =
+    let (kind, (field, rest)) = none-broken (shapeRules (engine .last-field) l ++ outputRules l) tt e in
+    inside-high 4 (engine .last-field) (l .field) field
+
 -- what any engine plans 01's does, which takes both fields
 pub tile-plans : {engine : Engine} → Lawful engine → (l : Layer) → planCode engine l ≡ 0 → planCode tileEngine l ≡ 0
 unfolding planCode
 tile-plans {engine} lawful l e =
     let (kind, (field, rest)) = none-broken (shapeRules (engine .last-field) l ++ outputRules l) tt e in
-    let taken : l .field ≤ engine .last-field = inside-high 4 (engine .last-field) (l .field) field in
-    let both = inside-from 4 5 (l .field) (inside-low 4 (engine .last-field) (l .field) field) (omega (arith, lawful .known)) in
+    let low = inside-low 4 (engine .last-field) (l .field) field in
+    let both = inside-from 4 5 (l .field) low (omega (arith, field-taken engine l e, lawful .known)) in
     all-hold (shapeRules 5 l ++ outputRules l) (kind, (both, rest))
 
 -- ---- rules 10 to 17
@@ -117,9 +124,9 @@ module _ (engine : Engine) (l : Layer) (map kernel : List ℤ) (output scratch :
   run-code = index-passes 0 (omega arith)
 
   -- the planner tells the total of a layer whose run is accepted
-  pub planned-total : runCode engine l map kernel output scratch ≡ 0 → planOf engine l .tiles ≡ engine .total l
+  pub planned-total : runCode engine l map kernel output scratch ≡ 0 → planOf engine l .parts ≡ engine .total l
   unfolding planOf
-  planned-total e = ap (λ (code : ℕ). figures engine code l .tiles) (run-plans e)
+  planned-total e = ap (λ (code : ℕ). figures engine code l .parts) (run-plans e)
 
   module _ (lawful : Lawful engine) where
     pub callable : runCode engine l map kernel output scratch ≡ 0 → Callable engine l map kernel output scratch
@@ -129,6 +136,7 @@ module _ (engine : Engine) (l : Layer) (map kernel : List ℤ) (output scratch :
         let hold = none-broken call-rules tt rest in
         record {
           plan = planned lawful l (run-plans e);
+          field-taken = field-taken engine l (run-plans e);
           map-length = eqb-true (length map) (mapCount l) search;
           kernel-length = eqb-true (length kernel) (kernelCount l) search;
           output-length = eqb-true output (outputCount l) search;

@@ -6,6 +6,7 @@ pub mod Callable
 pub mod FormerLoad
 -- laws
 pub mod ChecksLaws
+pub mod CallableLaws
 pub mod OffenderLaws
 pub mod EngineLaws
 pub mod BeyondLaws
@@ -13,3 +14,4 @@ pub mod FormerLoadLaws
 pub mod Charts
 pub mod LoadCases
 pub mod OffenderCases
+pub mod StripCases

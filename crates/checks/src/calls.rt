@@ -1,4 +1,7 @@
 // The checks of a call, in table order: those of the planner, 10 to 16 of what is lent with 25 and 24 before 16, 17 of the job's index.
+use crate::method::Method;
+use crate::method::part_total;
+use crate::method::scratch_words;
 use crate::planner::plan_code;
 use base::rules;
 use layer::shape::Layer;
@@ -10,10 +13,10 @@ ghost use mathlib.Core.Path.{_≡_};
 ghost use lib.ListN.{length};
 ghost use Rattle.base.specs.Rules.{firstBroken};
 ghost use Rattle.layer.specs.Planned.{Planned};
-ghost use Rattle.layer.specs.Shape.{mapCount, scratchWords};
+ghost use Rattle.layer.specs.Shape.{mapCount};
 ghost use Rattle.load.specs.Offender.{noOffender};
 ghost use Rattle.load.specs.Weights.{Weighted};
-ghost use Rattle.checks.specs.Engine.{tileEngine};
+ghost use Rattle.checks.specs.Engine.{engineOf};
 ghost use Rattle.checks.specs.Checks.{lentRules, mapValueRules, valueRules, jobCode, offenderWith};
 
 // What checks find.
@@ -33,14 +36,21 @@ fn without_place(code: usize) -> Checked
 }
 
 // The first of the rules 10 to 14 that is broken, or 0. The lengths of output and scratch are given, not their contents.
-fn lent_code(layer: Layer, map: &[i16], kernel: &[i16], output: usize, scratch: usize) -> usize
+fn lent_code(
+    layer: Layer,
+    words: usize,
+    map: &[i16],
+    kernel: &[i16],
+    output: usize,
+    scratch: usize,
+) -> usize
     requires { ⌜ Planned layer ⌝ }
-    ensures { λ r. ⌜ r ≡ firstBroken (lentRules (scratchWords layer) layer (now (map .entry)) (now (kernel .entry)) output scratch) ⌝ }
+    ensures { λ r. ⌜ r ≡ firstBroken (lentRules words layer (now (map .entry)) (now (kernel .entry)) output scratch) ⌝ }
 {
     let code = rules::next(0, 10, map.len() == sizes::map_count(layer));
     let code = rules::next(code, 11, kernel.len() == sizes::kernel_count(layer));
     let code = rules::next(code, 12, output == sizes::output_count(layer));
-    let code = rules::next(code, 13, sizes::scratch_words(layer) <= scratch);
+    let code = rules::next(code, 13, words <= scratch);
     rules::next(code, 14, rules::is_inside(1, 32767, layer.peak))
 }
 
@@ -77,6 +87,7 @@ fn check_values(layer: Layer, map: &[i16], kernel: &[i16]) -> Checked
 
 // The rules of a job.
 pub fn check_job(
+    method: Method,
     layer: Layer,
     next: usize,
     map: &[i16],
@@ -84,14 +95,15 @@ pub fn check_job(
     output: usize,
     scratch: usize,
 ) -> Checked
-    ensures { λ r. ⌜ r .code ≡ jobCode tileEngine layer next (now (map .entry)) (now (kernel .entry)) output scratch ⌝ }
+    ensures { λ r. ⌜ r .code ≡ jobCode (engineOf method) layer next (now (map .entry)) (now (kernel .entry)) output scratch ⌝ }
     ensures { λ r. ⌜ r .offender ≡ offenderWith (r .code) layer (now (map .entry)) ⌝ }
 {
-    let plan = plan_code(layer);
+    let plan = plan_code(method, layer);
     if plan != 0 {
         return without_place(plan);
     }
-    let lent = lent_code(layer, map, kernel, output, scratch);
+    let words = scratch_words(method, layer);
+    let lent = lent_code(layer, words, map, kernel, output, scratch);
     if lent != 0 {
         return without_place(lent);
     }
@@ -99,5 +111,5 @@ pub fn check_job(
     if values.code != 0 {
         return values;
     }
-    without_place(rules::next(0, 17, next <= sizes::tile_total(layer)))
+    without_place(rules::next(0, 17, next <= part_total(method, layer)))
 }

@@ -1,4 +1,8 @@
 // The planner: the rules 1 to 9 in table order, 23 after 7, and the figures of a layer that breaks none. It takes any sixteen numbers.
+use crate::method::Method;
+use crate::method::last_field;
+use crate::method::part_total;
+use crate::method::scratch_words;
 use base::rules;
 use layer::shape::Layer;
 use layer::shape::Plan;
@@ -6,17 +10,17 @@ use layer::sizes;
 ghost use mathlib.Core.Path.{_≡_};
 ghost use Rattle.base.specs.Rules.{firstBroken};
 ghost use Rattle.layer.specs.Planned.{addedFits, hasOutput, cropFits, InRange, ExtentInRange};
-ghost use Rattle.checks.specs.Engine.{tileEngine};
+ghost use Rattle.checks.specs.Engine.{tileEngine, stripEngine, engineOf};
 ghost use Rattle.checks.specs.Checks.{mapRules, kernelRules, outputRules, planCode, planOf};
 
 // The first of the rules 1 to 4 that is broken, or 0.
-fn map_code(layer: Layer) -> usize
-    ensures { λ r. ⌜ r ≡ firstBroken (mapRules 5 layer) ⌝ }
+fn map_code(layer: Layer, last_field: usize) -> usize
+    ensures { λ r. ⌜ r ≡ firstBroken (mapRules «last_field» layer) ⌝ }
 {
     let channels = rules::is_inside(1, 64, layer.inputs) & rules::is_inside(1, 64, layer.outputs);
     let map = rules::is_inside(1, 512, layer.height) & rules::is_inside(1, 512, layer.width);
     let code = rules::next(0, 1, rules::is_inside(0, 1, layer.kind));
-    let code = rules::next(code, 2, rules::is_inside(4, 5, layer.field));
+    let code = rules::next(code, 2, rules::is_inside(4, last_field, layer.field));
     let code = rules::next(code, 3, channels);
     rules::next(code, 4, map)
 }
@@ -88,27 +92,28 @@ fn output_code(layer: Layer) -> usize
 }
 
 // The first of the rules 1 to 9 and 23 that is broken, or 0.
-pub fn plan_code(layer: Layer) -> usize
-    ensures { λ r. ⌜ r ≡ planCode tileEngine layer ⌝ }
+pub fn plan_code(method: Method, layer: Layer) -> usize
+    ensures { λ r. ⌜ r ≡ planCode (engineOf method) layer ⌝ }
 {
-    let code = rules::first_code(map_code(layer), kernel_code(layer));
+    let map = map_code(layer, last_field(method));
+    let code = rules::first_code(map, kernel_code(layer));
     if code != 0 {
         return code;
     }
     output_code(layer)
 }
 
-// The answer to the rules 1 to 9 and 23, with E, F, the tile total and 3N²; these are 0 where the layer is refused.
-pub fn plan(layer: Layer) -> Plan
-    ensures { λ r. ⌜ r ≡ planOf tileEngine layer ⌝ }
+// The answer to the rules 1 to 9 and 23, with E, F, the total of parts and the words of scratch; these are 0 where the layer is refused.
+pub fn plan_by(method: Method, layer: Layer) -> Plan
+    ensures { λ r. ⌜ r ≡ planOf (engineOf method) layer ⌝ }
 {
-    let code = plan_code(layer);
+    let code = plan_code(method, layer);
     if code != 0 {
         return Plan {
             code: code,
             height: 0,
             width: 0,
-            tiles: 0,
+            parts: 0,
             scratch: 0,
         };
     }
@@ -116,7 +121,21 @@ pub fn plan(layer: Layer) -> Plan
         code: 0,
         height: sizes::full_size(layer, layer.height, layer.below),
         width: sizes::full_size(layer, layer.width, layer.beside),
-        tiles: sizes::tile_total(layer),
-        scratch: sizes::scratch_words(layer),
+        parts: part_total(method, layer),
+        scratch: scratch_words(method, layer),
     }
+}
+
+// By tiles: their total and 3N².
+pub fn plan(layer: Layer) -> Plan
+    ensures { λ r. ⌜ r ≡ planOf tileEngine layer ⌝ }
+{
+    plan_by(Method::Tiles, layer)
+}
+
+// By strips: their total and 768.
+pub fn plan_strips(layer: Layer) -> Plan
+    ensures { λ r. ⌜ r ≡ planOf stripEngine layer ⌝ }
+{
+    plan_by(Method::Strips, layer)
 }

@@ -53,13 +53,13 @@ module _ (engine : Engine) (job : Job) (budget : ℕ) (map kernel output : List 
 -- the plan's total as the budget: the total, or 0 where the plan and thus the call is refused
 pub planned-budget : {progress : Progress} {output-left : List ℤ} {scratch-left : List ℕ}
     (engine : Engine) (l : Layer) (map kernel output : List ℤ) (scratch : List ℕ)
-    → Called engine (startOf l) (planOf engine l .tiles) map kernel output scratch progress output-left scratch-left
+    → Called engine (startOf l) (planOf engine l .parts) map kernel output scratch progress output-left scratch-left
     → Called engine (startOf l) (engine .total l) map kernel output scratch progress output-left scratch-left
 unfolding planOf
 planned-budget {progress} {output-left} {scratch-left} engine l map kernel output scratch = by-plan (planCode engine l) refl
   where
     by-plan : (code : ℕ) → planCode engine l ≡ code
-        → Called engine (startOf l) (figures engine code l .tiles) map kernel output scratch progress output-left scratch-left
+        → Called engine (startOf l) (figures engine code l .parts) map kernel output scratch progress output-left scratch-left
         → Called engine (startOf l) (engine .total l) map kernel output scratch progress output-left scratch-left
     by-plan zero e call = call
     by-plan (suc code) e call =

@@ -1,4 +1,4 @@
--- Scratch during a call: the tiles change its first words only, and once these are cleared it is `cleared`. It rests on the laws of writes.
+-- Scratch during a call: the parts change its first words only, and once these are cleared it is `cleared`. It rests on the laws of writes.
 use mathlib.Core.Path.{_≡_, refl, _∙_}
 use mathlib.Core.Bool.{Bool, true, false, cond}
 use mathlib.Core.List.{List}

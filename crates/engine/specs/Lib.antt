@@ -5,3 +5,4 @@ pub mod Calls
 pub mod FinishedLaws
 pub mod CallsLaws
 pub mod RunLaws
+pub mod EnginesLaws

@@ -1,31 +1,66 @@
-// A job: a layer and the index of its next tile. It is a value; each call takes it and hands back the moved job.
-use crate::tiles::finish_tiles;
+// A job: a layer and the index of its next part. It is a value; each call takes it and hands back the moved job. It has no mark of its engine:
+// who calls it keeps it to the one that it began with.
+use crate::parts::finish_parts;
 use base::number::lesser;
 use base::words::clear;
+use checks::calls::Checked;
 use checks::calls::check_job;
+use checks::method::Method;
+use checks::method::part_total;
+use checks::method::scratch_words;
 use layer::shape::Layer;
-use layer::sizes;
 use load::offender::Offender;
 ghost use mathlib.Core.Path.{_≡_};
-ghost use Rattle.checks.specs.Engine.{tileEngine};
-ghost use Rattle.engine.specs.Call.{startOf, Called};
+ghost use Rattle.load.specs.Offender.{noOffender};
+ghost use Rattle.checks.specs.Engine.{tileEngine, stripEngine, engineOf};
+ghost use Rattle.engine.specs.Call.{startOf, refused, Called};
 
 pub struct Job {
     pub layer: Layer,
-    pub next: usize, // the index of the next tile
+    pub next: usize, // the index of the next part, a tile or a strip
 }
 
 // What a call answers.
 pub struct Progress {
     pub code: usize, // the number of the first rule broken, or 0
-    pub count: usize, // tiles finished in the call
+    pub count: usize, // parts finished in the call
     pub job: Job, // the moved job, or the job as given where the call is refused
-    pub done: bool, // no tile is left
+    pub done: bool, // no part is left
     pub offender: Offender, // the first map value beyond the peak where the code is 15 or 25; zeros with any other
 }
 
+// What a refused call answers: the job as given.
+fn refusal(job: Job, checked: Checked) -> Progress
+    ensures { λ r. ⌜ r ≡ refused job (checked .code) (checked .offender) ⌝ }
+{
+    let offender = checked.offender;
+    Progress {
+        code: checked.code,
+        count: 0,
+        job: job,
+        done: false,
+        offender: offender,
+    }
+}
+
+// What an accepted call answers: the job moved to the next part.
+fn acceptance(layer: Layer, next: usize, count: usize, done: bool) -> Progress
+    ensures { λ r. ⌜ r ≡ record { code = 0; count = count; job = record { layer = layer; next = next }; done = done; offender = noOffender } ⌝ }
+{
+    Progress {
+        code: 0,
+        count: count,
+        job: Job {
+            layer: layer,
+            next: next,
+        },
+        done: done,
+        offender: Offender::none(),
+    }
+}
+
 impl Job {
-    // The layer's job at tile 0.
+    // The layer's job at part 0.
     pub fn new(layer: Layer) -> Job
         ensures { λ r. ⌜ r ≡ startOf layer ⌝ }
     {
@@ -35,7 +70,41 @@ impl Job {
         }
     }
 
-    // Finishes the lesser of the budget and the tiles left, and zeroes the first 3N² words of scratch. A refused call changes nothing.
+    // Finishes the lesser of the budget and the parts left, and zeroes the words of scratch that the method uses. A refused call changes nothing.
+    pub fn advance_by(
+        self,
+        method: Method,
+        budget: usize,
+        map: &[i16],
+        kernel: &[i16],
+        output: &mut [i32],
+        scratch: &mut [u64],
+    ) -> Progress
+        ensures { λ r. ⌜ Called (engineOf method) self budget (now (map .entry)) (now (kernel .entry)) (now (output .entry)) (now (scratch .entry)) r (now (output .exit)) (now (scratch .exit)) ⌝ }
+    {
+        let layer = self.layer;
+        let next = self.next;
+        let checked = check_job(
+            method,
+            layer,
+            next,
+            map,
+            kernel,
+            output.len(),
+            scratch.len(),
+        );
+        if checked.code != 0 {
+            return refusal(self, checked);
+        }
+        let total = part_total(method, layer);
+        let count = lesser(budget, total - next);
+        let to = next + count;
+        finish_parts(method, layer, next, to, map, kernel, output, scratch);
+        clear(scratch, 0, scratch_words(method, layer));
+        acceptance(layer, to, count, to == total)
+    }
+
+    // By tiles: the first 3N² words of scratch are used.
     pub fn advance(
         self,
         budget: usize,
@@ -46,33 +115,20 @@ impl Job {
     ) -> Progress
         ensures { λ r. ⌜ Called tileEngine self budget (now (map .entry)) (now (kernel .entry)) (now (output .entry)) (now (scratch .entry)) r (now (output .exit)) (now (scratch .exit)) ⌝ }
     {
-        let layer = self.layer;
-        let next = self.next;
-        let checked = check_job(layer, next, map, kernel, output.len(), scratch.len());
-        if checked.code != 0 {
-            let offender = checked.offender;
-            return Progress {
-                code: checked.code,
-                count: 0,
-                job: self,
-                done: false,
-                offender: offender,
-            };
-        }
-        let total = sizes::tile_total(layer);
-        let count = lesser(budget, total - next);
-        let to = next + count;
-        finish_tiles(layer, next, to, map, kernel, output, scratch);
-        clear(scratch, 0, sizes::scratch_words(layer));
-        Progress {
-            code: 0,
-            count: count,
-            job: Job {
-                layer: layer,
-                next: to,
-            },
-            done: to == total,
-            offender: Offender::none(),
-        }
+        self.advance_by(Method::Tiles, budget, map, kernel, output, scratch)
+    }
+
+    // By strips: the first 768 words of scratch are used.
+    pub fn advance_strips(
+        self,
+        budget: usize,
+        map: &[i16],
+        kernel: &[i16],
+        output: &mut [i32],
+        scratch: &mut [u64],
+    ) -> Progress
+        ensures { λ r. ⌜ Called stripEngine self budget (now (map .entry)) (now (kernel .entry)) (now (output .entry)) (now (scratch .entry)) r (now (output .exit)) (now (scratch .exit)) ⌝ }
+    {
+        self.advance_by(Method::Strips, budget, map, kernel, output, scratch)
     }
 }

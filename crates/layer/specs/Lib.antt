@@ -1,5 +1,6 @@
 -- definitions, in the order of the request
 pub mod Shape
+pub mod Strip
 pub mod Numbers
 pub mod Direct
 pub mod Windows
@@ -10,8 +11,11 @@ pub mod FullLaws
 pub mod PlannedLaws
 pub mod TileSizeLaws
 pub mod CountLaws
+pub mod PartLaws
 pub mod TileLaws
+pub mod StripLaws
 pub mod PlaceLaws
 pub mod WindowLaws
+pub mod SpacedLaws
 pub mod WeighedLaws
 pub mod ProductLaws

@@ -5,11 +5,14 @@ use native.Mathlib.Omega.{arith}
 use lib.Arith.{digits-lt}
 use lib.Pow.{pow-mono}
 use Rattle.algebra.specs.PlacesLaws.{part-ends}
+use Rattle.base.specs.Number.{ceilingDiv}
+use Rattle.base.specs.NumberLaws.{ceiling-starts}
 use Rattle.fermat.specs.Field.{modulus, transformLength}
 use Rattle.layer.specs.Planned.{InRange, Planned}
 use Rattle.layer.specs.declared.shape.Layer.{Layer}
-use Rattle.layer.specs.Shape.{tileRows, tileColumns, tileRow, tileColumn}
+use Rattle.layer.specs.Shape.{gridStep, span, tileRows, tileColumns, tileRow, tileColumn}
 use Rattle.layer.specs.TileSizeLaws.{length-low}
+use Rattle.layer.specs.PartLaws.{span-is, step-range}
 use Rattle.layer.specs.TileLaws.{planned-tiled, line-some}
 
 module _ (l : Layer) (r : InRange l) where
@@ -43,3 +46,11 @@ module _ (l : Layer) (planned : Planned l) (t : ℕ) where
 
   pub tile-column-lt : tileColumn l t < tileColumns l
   tile-column-lt = mod-lt t (line-some l (planned-tiled l planned) (l .columns) (planned .columns-low))
+
+-- the grid place of a part of any length that begins before the last of `count` outputs
+pub start-high : (l : Layer) (length count first index : ℕ) → InRange l → 0 < length → 1 ≤ count → first + count ≤ 2058
+    → index < ceilingDiv (span l count) length → first * gridStep l + index * length ≤ 10000
+start-high l length count first index r long some end before =
+    let last : (first + (count - 1)) * gridStep l ≤ 2057 * 4 = mul-le-mul {n₂ = 2057} {m₂ = 4} (omega arith) (step-range l r .1) in
+    let begins : index * length < span l count = ceiling-starts (span l count) length index long before in
+    omega (arith, span-is l count some)

@@ -11,28 +11,8 @@ use Rattle.base.specs.Number.{ceilingDiv}
 use Rattle.layer.specs.Planned.{InRange, Planned}
 use Rattle.layer.specs.declared.shape.Layer.{Layer}
 use Rattle.layer.specs.TileSizeLaws.{tile-side-low}
+use Rattle.layer.specs.PartLaws.{Held, step-range, wanted-lt, part-some, part-held}
 use Rattle.layer.specs.Shape.{isConv, tileSide, gridStep, span, tileRows, tileColumns, tileTotal, channelOf, rowOf, columnOf, tileOf, tileChannel, tileRow, tileColumn}
-
--- ---- along one side: places `step` apart on a line of tiles of `side`
-
--- the first of the places that lies in tile t: it exists where the tile is not shorter than the step
-pub record Held (side step count t : ℕ) : Type 0 where
-  pub place : ℕ
-  pub below : place < count
-  pub tile : place * step / side ≡ t
-
-pub held : (side step count t : ℕ) → 0 < step → step ≤ side → 0 < count → t < ceilingDiv ((count - 1) * step + 1) side → Held side step count t
-held side step count t some wide wanted l =
-    let start : t * side < (count - 1) * step + 1 = ceiling-starts ((count - 1) * step + 1) side t (omega arith) l in
-    let e : ℕ = (t * side + step - 1) / step in
-    let low : t * side + step - 1 < e * step + step = lt-div-mul-add {a = t * side + step - 1} {b = step} some in
-    let high : e * step ≤ t * side + step - 1 = div-mul-le-self (t * side + step - 1) step in
-    let last : e < count = div-lt-iff-lt-mul some .1 (omega (arith, split count step wanted)) in
-    record { place = e; below = last; tile = quotient-is side (e * step) t (omega arith) (omega arith) }
-  where
-    split : (count step : ℕ) → 0 < count → count * step ≡ (count - 1) * step + step
-    split zero step h = absurd (omega arith)
-    split (suc n) step h = let e : suc n - 1 ≡ n = omega arith in rw e (suc-mul n step)
 
 -- ---- on the output of a layer
 
@@ -42,13 +22,6 @@ pub record Tiled (l : Layer) : Type 0 where
   pub columns : 0 < l .columns
   pub step : 0 < gridStep l
   pub wide : gridStep l ≤ tileSide l
-
-pub step-range : (l : Layer) → InRange l → (0 < gridStep l) × (gridStep l ≤ 4)
-step-range l r = go (isConv l)
-  where
-    go : (conv : Bool) → (0 < cond conv (l .stride) 1) × (cond conv (l .stride) 1 ≤ 4)
-    go true = (r .stride-low, r .stride-high)
-    go false = (omega arith, omega arith)
 
 pub planned-tiled : (l : Layer) → Planned l → Tiled l
 planned-tiled l p =
@@ -68,24 +41,13 @@ pub record InTile (l : Layer) (t p : ℕ) : Type 0 where
   pub column-low : tileColumn l t * tileSide l ≤ columnOf l p * gridStep l
   pub column-high : columnOf l p * gridStep l < tileColumn l t * tileSide l + tileSide l
 
--- the rows that `count` wanted ones span
-pub span-is : (l : Layer) (count : ℕ) → 0 < count → span l count ≡ (count - 1) * gridStep l + 1
-span-is l count some = go (isConv l)
-  where
-    go : (conv : Bool) → cond conv ((count - 1) * l .stride + 1) count ≡ (count - 1) * cond conv (l .stride) 1 + 1
-    go true = refl
-    go false = omega arith
-
 module _ (l : Layer) (tiled : Tiled l) where
   side-some : 0 < tileSide l
   side-some = omega (arith, tiled .step, tiled .wide)
 
-  -- a wanted row or column lies in one of the tiles across
+  -- of the tiles across
   line-lt : (count e : ℕ) → e < count → e * gridStep l / tileSide l < ceilingDiv (span l count) (tileSide l)
-  line-lt count e h = rw (span-is l count (omega arith)) (ceiling-lt _ (tileSide l) _ side-some (omega (arith, mul-le-mul-right (gridStep l) (less count e h))))
-    where
-      less : (count e : ℕ) → e < count → e ≤ count - 1
-      less count e h = omega arith
+  line-lt count e h = wanted-lt l (tileSide l) count e side-some h
 
   plane : 0 < l .rows * l .columns
   plane = above (l .rows) (l .columns) (tiled .rows) (tiled .columns)
@@ -162,12 +124,10 @@ pub record Place (l : Layer) (t : ℕ) : Type 0 where
 -- a wanted row or column in tile t of a line of tiles
 pub line-held : (l : Layer) → Tiled l → (count t : ℕ) → 0 < count → t < ceilingDiv (span l count) (tileSide l)
     → Held (tileSide l) (gridStep l) count t
-line-held l tiled count t some h =
-    held (tileSide l) (gridStep l) count t (tiled .step) (tiled .wide) some
-    (subst (λ (n : ℕ). t < ceilingDiv n (tileSide l)) (span-is l count some) h)
+line-held l tiled count t some h = part-held l (tileSide l) count t (tiled .step) (tiled .wide) some h
 
 pub line-some : (l : Layer) → Tiled l → (count : ℕ) → 0 < count → 0 < ceilingDiv (span l count) (tileSide l)
-line-some l tiled count some = omega (arith, line-lt l tiled count 0 some)
+line-some l tiled count some = part-some l (tileSide l) count (side-some l tiled) some
 
 pub tile-channel-lt : (l : Layer) → Tiled l → (t : ℕ) → t < tileTotal l → tileChannel l t < l .outputs
 unfolding tileTotal
@@ -186,7 +146,7 @@ tile-held l tiled t h = record {
       ∙ ap (λ (k : ℕ). (tileChannel l t * tileRows l + k / l .columns * gridStep l / tileSide l) * tileColumns l + k % l .columns * gridStep l / tileSide l) plane
       ∙ ap₂ (λ (e f : ℕ). (tileChannel l t * tileRows l + e * gridStep l / tileSide l) * tileColumns l + f * gridStep l / tileSide l)
       (digits-div (row .place) (column .below)) (digits-mod (row .place) (column .below))
-      ∙ ap₂ (λ (e f : ℕ). (tileChannel l t * tileRows l + e) * tileColumns l + f) (row .tile) (column .tile)
+      ∙ ap₂ (λ (e f : ℕ). (tileChannel l t * tileRows l + e) * tileColumns l + f) (row .part) (column .part)
       ∙ whole l t;
 }
   where

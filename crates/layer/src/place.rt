@@ -1,15 +1,15 @@
-// Where a tile stands in its layer.
+// Where a part of a layer stands: a tile, or a strip.
 use crate::shape::Layer;
 use crate::sizes;
 ghost use mathlib.Core.Path.{_≡_};
 ghost use Prim.Native.Nat.{_+_, _*_, _≤_, _<_};
 ghost use Rattle.layer.specs.Planned.{InRange, Planned};
-ghost use Rattle.layer.specs.Shape.{tileSide, gridStep, tileTotal, tileChannel, tileRow, tileColumn};
+ghost use Rattle.layer.specs.Shape.{gridStep, tileTotal, tileChannel, tileRow, tileColumn};
 
 pub struct Place {
     pub channel: usize, // of the output
-    pub row: usize, // of tiles
-    pub column: usize,
+    pub row: usize, // of tiles, or the output row of a strip
+    pub column: usize, // of tiles, or of strips
 }
 
 pub fn place_of(layer: Layer, tile: usize) -> Place
@@ -26,10 +26,10 @@ pub fn place_of(layer: Layer, tile: usize) -> Place
     }
 }
 
-// The row or the column of the stride-1 grid that a tile begins at: the crop's first output and the tiles before.
-pub fn grid_start(layer: Layer, first: usize, before: usize) -> usize
-    requires { ⌜ InRange layer × (first ≤ 2058) × (before ≤ 8292) ⌝ }
-    ensures { λ r. ⌜ r ≡ first * gridStep layer + before * tileSide layer ⌝ }
+// The row or the column of the stride-1 grid that a part begins at: the first output, and the parts before, each of that many places.
+pub fn grid_start(layer: Layer, first: usize, before: usize, length: usize) -> usize
+    requires { ⌜ InRange layer × (first ≤ 2058) × (before ≤ 8484) × (length ≤ 256) ⌝ }
+    ensures { λ r. ⌜ r ≡ first * gridStep layer + before * length ⌝ }
 {
-    first * sizes::grid_step(layer) + before * sizes::tile_side(layer)
+    first * sizes::grid_step(layer) + before * length
 }

@@ -25,6 +25,6 @@ pub struct Plan {
     pub code: usize,
     pub height: usize, // E, rows of the full output
     pub width: usize, // F, columns of the full output
-    pub tiles: usize, // all tiles of the layer
-    pub scratch: usize, // 3N² words
+    pub parts: usize, // all parts of the layer: its tiles, or its strips
+    pub scratch: usize, // words of scratch: 3N² for tiles, 768 for strips
 }

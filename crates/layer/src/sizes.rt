@@ -69,7 +69,7 @@ pub fn grid_step(layer: Layer) -> usize
 }
 
 // R of the rows kept, Q of the columns kept.
-fn span_of(layer: Layer, count: usize) -> usize
+pub(crate) fn span_of(layer: Layer, count: usize) -> usize
     requires { ⌜ Wanted layer count ⌝ }
     ensures { λ r. ⌜ r ≡ span layer count ⌝ }
 {

@@ -15,7 +15,7 @@ fn swap(words: &mut [u64], p: usize, q: usize)
 }
 
 // The index k with its bits in reverse order.
-fn reverse(k: usize, halvings: u32) -> usize
+pub fn reverse(k: usize, halvings: u32) -> usize
     requires { ⌜ (k < 2 ^ halvings) × (halvings ≤ 6) ⌝ }
     ensures { λ r. ⌜ r ≡ reversed halvings k ⌝ }
 {

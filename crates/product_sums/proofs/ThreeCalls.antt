@@ -49,7 +49,7 @@ module _ {engine : Engine} (lawful : Lawful engine) (l : Layer) (budget : ℕ) (
     {progress-1 progress-2 progress-3 : Progress}
     {job : Job} (starts : job ≡ startOf l) (first : Called engine job budget map kernel output-0 scratch-0 progress-1 output-1 scratch-1)
     (second : Called engine (progress-1 .job) budget none kernel output-1 scratch-1 progress-2 output-2 scratch-2)
-    (third : Called engine (progress-2 .job) (planOf engine l .tiles) map kernel output-2 scratch-2 progress-3 output-3 scratch-3)
+    (third : Called engine (progress-2 .job) (planOf engine l .parts) map kernel output-2 scratch-2 progress-3 output-3 scratch-3)
   where
     abbrev call-1 : Call engine
     call-1 = record {
@@ -82,7 +82,7 @@ module _ {engine : Engine} (lawful : Lawful engine) (l : Layer) (budget : ℕ) (
     abbrev call-3 : Call engine
     call-3 = record {
       job = progress-2 .job;
-      budget = planOf engine l .tiles;
+      budget = planOf engine l .parts;
       map = map;
       kernel = kernel;
       output = output-2;

@@ -21,7 +21,9 @@ use Rattle.layer.specs.ShapeLaws.{same-shape}
 use Rattle.layer.specs.Direct.{conv, tconv, fullAt, directAt, productSum}
 use Rattle.layer.specs.FullLaws.{full-conv, full-tconv}
 use Rattle.layer.specs.ProductLaws.{product-law}
-use Rattle.checks.specs.Engine.{Engine, Lawful}
+use Rattle.checks.specs.declared.method.Method.{Method}
+use Rattle.checks.specs.Engine.{Engine, engineOf, Lawful}
+use Rattle.checks.specs.EngineLaws.{lawful}
 use Rattle.engine.specs.Calls.{JobCalls, outputOf, Reaches}
 use Rattle.engine.specs.CallsLaws.{calls-callable, reached}
 use Rattle.product_sums.specs.ProductSums.{NotCropped, Matched, remainder, Paired, EvenlyPaired, SumsAgree}
@@ -122,3 +124,9 @@ pub product-sums-evenly : {one other : Engine} → Lawful one → Lawful other �
     → (us : JobCalls one conv x kernel) (vs : JobCalls other tconv y kernel) → Reaches us → Reaches vs
     → SumsAgree conv x y (outputOf us) (outputOf vs)
 product-sums-evenly one-lawful other-lawful even = product-sums one-lawful other-lawful (evenly-paired even)
+
+-- 02, E5: each list is kept to one method, either one, in either field that it has
+pub product-sums-by : (one other : Method) {conv tconv : Layer} {x y kernel : List ℤ} → Paired conv tconv
+    → (us : JobCalls (engineOf one) conv x kernel) (vs : JobCalls (engineOf other) tconv y kernel) → Reaches us → Reaches vs
+    → SumsAgree conv x y (outputOf us) (outputOf vs)
+product-sums-by one other = product-sums (lawful one) (lawful other)

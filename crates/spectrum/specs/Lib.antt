@@ -6,3 +6,4 @@ pub mod Product
 -- laws
 pub mod ValueLaws
 pub mod SpectrumLaws
+pub mod LendingLaws

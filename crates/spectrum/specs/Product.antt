@@ -9,7 +9,7 @@ use lib.ListN.{getD}
 use Rattle.algebra.specs.Congruence.{Cong}
 use Rattle.fermat.specs.Field.{modulus, transformLength, scale}
 
--- a word of a transformed tile is at most this: loaded words are at most twice the modulus, and both transforms multiply that by N
+-- a word of a transformed tile is at most this, and one of a transformed row of 256 too: loaded words are at most twice the modulus, and both transforms multiply that by N
 abbrev pub factorMost : ℕ → ℕ
 factorMost t = 2 * modulus t * transformLength t * transformLength t
 
@@ -22,7 +22,7 @@ pub record Product (t a c r : ℕ) : Type 0 where
   pub value : Cong (modulus t) r (a * c)
   pub bound : r ≤ productMost t
 
--- what the inverse transform of a tile starts from
+-- what an inverse transform starts from
 abbrev pub settledMost : ℕ → ℕ
 settledMost t = 4 * modulus t
 
@@ -35,7 +35,7 @@ pub record Settled (t v r : ℕ) : Type 0 where
 abbrev pub inverseMost : ℕ → ℕ
 inverseMost t = settledMost t * transformLength t * transformLength t
 
--- v can be finished: at most 4 (2 ^ b + 1) 2 ^ r, where 2 ^ r is N²
+-- v can be finished: at most 4 (2 ^ b + 1) 2 ^ r, where 2 ^ r is N² for a tile
 pub record Reducible (b r v : ℕ) : Type 0 where
   pub bits-low : 4 ≤ b
   pub bits-high : b ≤ 32

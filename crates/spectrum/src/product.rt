@@ -1,4 +1,4 @@
-// Between the forward and the inverse transform of a tile: products of words that are not reduced, added up; the sums brought down to a
+// Between the forward and the inverse transform of a tile or of a row: products of words that are not reduced, added up; the sums brought down to a
 // small bound; and, after the inverse, residues. Each loop works word by word without a branch on a word.
 ghost use mathlib.Core.Path.{_≡_};
 ghost use Prim.Native.Nat.{ℕ, _+_, _-_, _*_, _/_, _%_, _^_, _<_, _≤_};
@@ -9,7 +9,7 @@ use fermat::field::bits_of;
 use fermat::field::halvings_of;
 
 // The product of two words of F_4 fits a word. The remainders change nothing; they tell the compiler that the halves above are 0.
-fn product_4(a: u64, c: u64) -> u64
+pub fn product_4(a: u64, c: u64) -> u64
     requires { ⌜ (a ≤ factorMost 4) × (c ≤ factorMost 4) ⌝ }
     ensures { λ r. ⌜ Product 4 a c r ⌝ }
 {
@@ -60,7 +60,7 @@ pub fn accumulate(scratch: &mut [u64], count: usize, field: usize)
 }
 
 // A word brought down: its digits to the base 2^16, which is -1, with alternating signs.
-fn settled_4(v: u64) -> u64
+pub fn settled_4(v: u64) -> u64
     ensures { λ r. ⌜ Settled 4 v r ⌝ }
 {
     v % 65536 + v / 4294967296 % 65536 + 131074 - v / 65536 % 65536 - v / 281474976710656
@@ -83,7 +83,7 @@ fn settled(field: usize, v: u64) -> u64
     settled_5(v)
 }
 
-pub(crate) fn settle(words: &mut [u64], field: usize)
+pub fn settle(words: &mut [u64], field: usize)
     requires { ⌜ (4 ≤ field) × (field ≤ 5) ⌝ }
     ensures { λ _. ⌜ ((i : ℕ) → i < length (now (words .entry)) → Settled field (getD (now (words .entry)) i 0) (getD (now (words .exit)) i 0)) ⌝ }
 {
@@ -94,9 +94,9 @@ pub(crate) fn settle(words: &mut [u64], field: usize)
     }
 }
 
-// A word v that the inverse of a tile leaves, as a residue: v / N² and the offset, modulo 2^bits + 1. N² is 2^rest, and 1 / N² is
+// A word v that an inverse leaves, as a residue: v / 2^rest and the offset, modulo 2^bits + 1. 2^rest is N² for a tile, and 1 / 2^rest is
 // -2^(bits - rest). The offset is added so that the signed reading takes it away again, without a branch.
-fn offset_residue(v: u64, bits: u32, rest: u32, offset: u64) -> u64
+pub fn offset_residue(v: u64, bits: u32, rest: u32, offset: u64) -> u64
     requires { ⌜ Reducible bits rest v × (offset ≡ 2 ^ bits / 2) ⌝ }
     ensures { λ r. ⌜ OffsetResidue bits rest v r ⌝ }
 {

@@ -1,5 +1,5 @@
--- The rows or columns of the output in tile t of a line of tiles: from the first at or after the tile's start up to the first at or after
--- the next tile's start. It rests on the laws of tiles.
+-- The rows or columns of the output in part t of a line of parts: from the first at or after the part's start up to the first at or after
+-- the next part's start. It rests on the laws of tiles.
 use mathlib.Core.Path.{_≡_}
 use Prim.Native.Nat.{ℕ, _+_, _*_, _-_, _<_, _≤_, min}
 use native.Mathlib.Decide.{decLt}
@@ -8,9 +8,9 @@ use Rattle.base.specs.NumberLaws.{ceiling-le, le-ceiling, quotient-low, quotien
 use Rattle.base.specs.Number.{ceilingDiv}
 use Rattle.layer.specs.Planned.{Planned, Wanted}
 use Rattle.layer.specs.declared.shape.Layer.{Layer}
-use Rattle.layer.specs.Shape.{tileSide, gridStep, span}
-use Rattle.layer.specs.TileSizeLaws.{tile-side-low}
-use Rattle.layer.specs.TileLaws.{planned-tiled, line-held}
+use Rattle.layer.specs.Shape.{gridStep, span}
+use Rattle.layer.specs.PartLaws.{part-held}
+use Rattle.layer.specs.TileLaws.{planned-tiled}
 use Rattle.store.specs.Held.{HeldBy}
 
 -- one of two numbers is the less
@@ -21,7 +21,7 @@ before a b h = go (decLt a b)
     go (yes l) = l
     go (no n) = absurd (h (omega arith))
 
--- numbers from the first of tile t on, and before the first of the next
+-- numbers from the first of part t on, and before the first of the next
 module _ (side s t : ℕ) (some : 1 ≤ s) where
   from-first : (e : ℕ) → ceilingDiv (t * side) s ≤ e → t * side ≤ e * s
   from-first e l = le-ceiling (t * side) s e some l
@@ -37,37 +37,38 @@ module _ (side s t : ℕ) (some : 1 ≤ s) where
 
 -- ---- what `held_in` computes
 
-module _ (l : Layer) (p : Planned l) (t count first end : ℕ) (w : Wanted l count) (low : t < ceilingDiv (span l count) (tileSide l))
-    (first-is : first ≡ ceilingDiv (t * tileSide l) (gridStep l)) (end-is : end ≡ min (ceilingDiv ((t + 1) * tileSide l) (gridStep l)) count) where
+module _ (l : Layer) (p : Planned l) (side t count first end : ℕ) (w : Wanted l count) (wide : gridStep l ≤ side)
+    (low : t < ceilingDiv (span l count) side)
+    (first-is : first ≡ ceilingDiv (t * side) (gridStep l)) (end-is : end ≡ min (ceilingDiv ((t + 1) * side) (gridStep l)) count) where
   step-low : 1 ≤ gridStep l
   step-low = planned-tiled l p .step
 
-  -- the tile holds one of the rows or columns, and so its first
-  pub first-held : (first < end) × (t * tileSide l ≤ first * gridStep l) × (first * gridStep l < t * tileSide l + tileSide l)
+  -- the part holds one of the rows or columns, and so its first
+  pub first-held : (first < end) × (t * side ≤ first * gridStep l) × (first * gridStep l < t * side + side)
   first-held =
-      let one = line-held l (planned-tiled l p) count t (w .count-low) low in
-      let start = quotient-low (tileSide l) _ t (one .tile) in
-      let stop = quotient-high (tileSide l) _ t (omega (arith, tile-side-low l (p .shape))) (one .tile) in
-      let up = to-first (tileSide l) (gridStep l) t step-low (one .place) start in
-      let down = to-next (tileSide l) (gridStep l) t step-low (one .place) stop in
-      let inside : first < ceilingDiv ((t + 1) * tileSide l) (gridStep l) = omega (arith, first-is) in (
+      let one = part-held l side count t step-low wide (w .count-low) low in
+      let start = quotient-low side _ t (one .part) in
+      let stop = quotient-high side _ t (omega (arith, step-low)) (one .part) in
+      let up = to-first side (gridStep l) t step-low (one .place) start in
+      let down = to-next side (gridStep l) t step-low (one .place) stop in
+      let inside : first < ceilingDiv ((t + 1) * side) (gridStep l) = omega (arith, first-is) in (
         omega (arith, first-is, end-is, one .below),
-        from-first (tileSide l) (gridStep l) t step-low first (omega (arith, first-is)),
-        before-next (tileSide l) (gridStep l) t step-low first inside,
+        from-first side (gridStep l) t step-low first (omega (arith, first-is)),
+        before-next side (gridStep l) t step-low first inside,
       )
 
-  pub held-by : {word : ℕ} → l .side - 1 + (first * gridStep l - t * tileSide l) ≡ word
-      → HeldBy l t count (record { first = first; count = end - first; word = word })
+  pub held-by : {word : ℕ} → l .side - 1 + (first * gridStep l - t * side) ≡ word
+      → HeldBy l side t count (record { first = first; count = end - first; word = word })
   held-by word-is = record {
     some = omega (arith, first-held);
     short = omega (arith, first-held, end-is);
     inside = λ e h. (
-      from-first (tileSide l) (gridStep l) t step-low e (omega (arith, first-is, h .0)),
-      before-next (tileSide l) (gridStep l) t step-low e (omega (arith, end-is, h .0, h .1)),
+      from-first side (gridStep l) t step-low e (omega (arith, first-is, h .0)),
+      before-next side (gridStep l) t step-low e (omega (arith, end-is, h .0, h .1)),
     );
     all = λ e below on.
-        let up = to-first (tileSide l) (gridStep l) t step-low e (on .0) in
-        let down = to-next (tileSide l) (gridStep l) t step-low e (on .1) in
+        let up = to-first side (gridStep l) t step-low e (on .0) in
+        let down = to-next side (gridStep l) t step-low e (on .1) in
         (omega (arith, first-is), omega (arith, first-held, first-is, end-is));
     word = word-is;
   }

@@ -1,5 +1,5 @@
 -- The places of tile t in the part of the output that is lent to `store_rows`, which begins at the first row of the tile's channel.
--- It rests on the laws of tiles and of written places.
+-- It rests on the laws of tiles, of what a part holds and of written places.
 use mathlib.Core.Path.{_≡_, ap, ap₂, _∙_}
 use mathlib.Core.List.{List}
 use Prim.Native.Nat.{ℕ, _+_, _*_, _-_, _/_, _%_, _<_, _≤_}
@@ -9,39 +9,26 @@ use lib.Arith.{digits-div, digits-mod}
 use lib.IntN.{ℤ, pos}
 use lib.ListN.{length}
 use borrow.Rule.Slice.PartMut.{midOf, putMid}
-use Rattle.algebra.specs.Places.{Written, Run}
+use Rattle.algebra.specs.Places.{Written}
 use Rattle.algebra.specs.PlacesLaws.{written-as, written-part}
 use Rattle.fermat.specs.Field.{transformLength}
 use Rattle.passes.specs.Halving.{word}
 use Rattle.spectrum.specs.Value.{offsetOf, lessOffset, Storable}
 use Rattle.layer.specs.Planned.{Planned}
 use Rattle.layer.specs.declared.shape.Layer.{Layer}
-use Rattle.layer.specs.Shape.{tileSide, gridStep, rowOf, columnOf, tileOf, tileChannel, tileRow, tileColumn}
+use Rattle.layer.specs.Shape.{tileSide, rowOf, columnOf, tileOf, tileChannel, tileRow, tileColumn}
 use Rattle.layer.specs.TileSizeLaws.{length-low}
 use Rattle.layer.specs.TileLaws.{Tiled, InTile, planned-tiled, row-lt, column-lt, to-tile, from-tile}
 use Rattle.store.specs.declared.Held.{Held}
 use Rattle.store.specs.Stored.{wordOf, storedAt}
 use Rattle.store.specs.Held.{HeldBy, WithWords, heldWord, InRows, RowsStorable, RowsStored}
+use Rattle.store.specs.HeldLaws.{word-at, word-lt}
 
--- ---- the words of the rows or columns that a tile of a line holds
-
-module _ (l : Layer) (t count : ℕ) (h : Held) (by : HeldBy l t count h) where
-  word-at : (e : ℕ) → Run (h .first) (h .count) e → h .word + (e - h .first) * gridStep l ≡ l .side - 1 + (e * gridStep l - t * tileSide l)
-  word-at e run =
-      let start = by .inside (h .first) (omega arith, omega (arith, by .some)) in
-      let further : e * gridStep l ≡ h .first * gridStep l + (e - h .first) * gridStep l = split e (h .first) (gridStep l) (run .0) in
-      omega (arith, by .word, start .0)
-    where
-      split : (e first step : ℕ) → first ≤ e → e * step ≡ first * step + (e - first) * step
-      split e first step le = let same : e ≡ first + (e - first) = omega arith in ap (λ (k : ℕ). k * step) same ∙ omega arith
-
-  pub with-words : Planned l → WithWords l h
-  with-words p =
-      let last : ℕ = h .first + (h .count - 1) in
-      let run : Run (h .first) (h .count) last = (omega arith, omega (arith, by .some)) in
-      let back : last - h .first ≡ h .count - 1 = omega arith in
-      let at = rw back at (word-at last run) in
-      omega (arith, by .inside last run .1, length-low l (p .shape), p .shape .side-high, p .shape .side-low)
+-- the words of the rows or columns that a tile of a line holds are among its N by N
+pub with-words : (l : Layer) → Planned l → (t count : ℕ) (h : Held) → HeldBy l (tileSide l) t count h → WithWords l h
+with-words l p t count h by =
+    let last = word-lt l (tileSide l) t count h by (h .count - 1) (omega (arith, by .some)) in
+    omega (arith, length-low l (p .shape), p .shape .side-high, p .shape .side-low)
 
 -- ---- the places
 
@@ -53,7 +40,7 @@ channel-end l t below =
     omega (arith, mul-le-mul-right plane below, suc-mul (tileChannel l t) plane, mul-assoc (l .outputs) (l .rows) (l .columns))
 
 module _ (l : Layer) (planned : Planned l) (t : ℕ) (rows columns : Held)
-    (in-rows : HeldBy l (tileRow l t) (l .rows) rows) (in-columns : HeldBy l (tileColumn l t) (l .columns) columns)
+    (in-rows : HeldBy l (tileSide l) (tileRow l t) (l .rows) rows) (in-columns : HeldBy l (tileSide l) (tileColumn l t) (l .columns) columns)
     (from : ℕ) (from-is : from ≡ tileChannel l t * (l .rows * l .columns)) where
   -- a place of the rows and columns held is one of the channel
   in-channel : (q : ℕ) → InRows l rows columns (rows .count) q → q < l .rows * l .columns
@@ -96,8 +83,8 @@ module _ (l : Layer) (planned : Planned l) (t : ℕ) (rows columns : Held)
         let inner : p - from ≡ p % (l .rows * l .columns) = omega (arith, in-part p i) in
         let (row, column) = rw inner at (held p i) in
         rw inner (ap₂ (λ (a b : ℕ). word (transformLength (l .field)) a b words)
-        (word-at l (tileRow l t) (l .rows) rows in-rows (rowOf l p) row)
-        (word-at l (tileColumn l t) (l .columns) columns in-columns (columnOf l p) column))
+        (word-at l (tileSide l) (tileRow l t) (l .rows) rows in-rows (rowOf l p) row)
+        (word-at l (tileSide l) (tileColumn l t) (l .columns) columns in-columns (columnOf l p) column))
 
     -- what is asked of the tile's places is asked of the rows
     pub rows-fit : {n : ℕ} → from + l .rows * l .columns ≤ n

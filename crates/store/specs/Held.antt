@@ -1,5 +1,5 @@
--- The output rows and columns that a tile holds, and what is stored of a row and of all its rows. The contracts of the functions that store
--- a tile rest on this.
+-- The output rows and columns that a part of a line holds, and what is stored of a row and of all rows of a tile. The contracts of the
+-- functions that store rest on this.
 use mathlib.Core.Path.{_≡_}
 use mathlib.Core.List.{List}
 use Prim.Native.Nat.{ℕ, _+_, _*_, _-_, _/_, _%_, _<_, _≤_}
@@ -10,20 +10,20 @@ use Rattle.fermat.specs.Field.{transformLength}
 use Rattle.passes.specs.Halving.{word}
 use Rattle.spectrum.specs.Value.{offsetOf, lessOffset, Storable}
 use Rattle.layer.specs.declared.shape.Layer.{Layer}
-use Rattle.layer.specs.Shape.{tileSide, gridStep}
+use Rattle.layer.specs.Shape.{gridStep}
 use Rattle.store.specs.declared.Held.{Held}
 
--- row or column e of the output lies in tile t of a line of tiles
-abbrev pub OnTile : Layer → (t e : ℕ) → Type 0
-OnTile l t e = (t * tileSide l ≤ e * gridStep l) × (e * gridStep l < t * tileSide l + tileSide l)
+-- row or column e of the output lies in part t of a line of parts of `side` grid places
+abbrev pub OnPart : Layer → (side t e : ℕ) → Type 0
+OnPart l side t e = (t * side ≤ e * gridStep l) × (e * gridStep l < t * side + side)
 
--- h tells which of `count` rows or columns lie in tile t, and where their words are
-pub record HeldBy (l : Layer) (t count : ℕ) (h : Held) : Type 0 where
+-- h tells which of `count` rows or columns lie in part t, and where their words are
+pub record HeldBy (l : Layer) (side t count : ℕ) (h : Held) : Type 0 where
   pub some : 0 < h .count
   pub short : h .first + h .count ≤ count
-  pub inside : (e : ℕ) → Run (h .first) (h .count) e → OnTile l t e
-  pub all : (e : ℕ) → e < count → OnTile l t e → Run (h .first) (h .count) e
-  pub word : l .side - 1 + (h .first * gridStep l - t * tileSide l) ≡ h .word
+  pub inside : (e : ℕ) → Run (h .first) (h .count) e → OnPart l side t e
+  pub all : (e : ℕ) → e < count → OnPart l side t e → Run (h .first) (h .count) e
+  pub word : l .side - 1 + (h .first * gridStep l - t * side) ≡ h .word
 
 -- ---- `count` places of a row, from `at` on: the first one's word is at `from`, each further one's is `step` after the one before
 

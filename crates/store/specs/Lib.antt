@@ -1,3 +1,6 @@
 -- definitions
 pub mod Stored
 pub mod Held
+-- laws
+pub mod HeldLaws
+pub mod ReadingLaws

@@ -1,5 +1,5 @@
 // A finished tile is stored: its wanted places are written, and no others. The rows and columns of the output that the tile holds are
-// computed; then the run of words of each row is stored.
+// computed; then the run of words of each row is stored. Both serve parts of other sides too.
 use base::number::ceiling_div;
 use base::number::lesser;
 use fermat::field;
@@ -17,15 +17,15 @@ ghost use Rattle.base.specs.Number.{ceilingDiv};
 ghost use Rattle.fermat.specs.Field.{transformLength};
 ghost use Rattle.spectrum.specs.Value.{offsetOf, Storable};
 ghost use Rattle.layer.specs.Planned.{Planned, Wanted};
-ghost use Rattle.layer.specs.Shape.{tileSide, span, tileTotal, tileOf};
+ghost use Rattle.layer.specs.Shape.{gridStep, span, tileTotal, tileOf};
 ghost use Rattle.store.specs.Stored.{wordOf, storedAt};
 ghost use Rattle.store.specs.Held.{HeldBy, RowStorable, RowStored, WithWords, RowsStorable, RowsStored};
 
-// The rows or the columns of the output that a tile holds.
+// The rows or the columns of the output that a part of a line holds.
 pub struct Held {
     pub first: usize, // the first of them
     pub count: usize,
-    pub word: usize, // the row or the column of the tile's words that the first one's are in
+    pub word: usize, // the row or the column of the part's words that the first one's are in
 }
 
 // Stores words that stand side by side. It has a loop of its own, which is compiled to many words at a time.
@@ -64,8 +64,8 @@ fn store_spaced(
     }
 }
 
-// Stores a row of a tile.
-fn store_row(
+// Stores a row.
+pub fn store_row(
     output: &mut [i32],
     at: usize,
     words: &[u64],
@@ -84,33 +84,32 @@ fn store_row(
     }
 }
 
-// The first row or column of the output that lies in this tile of a line of tiles, or further on.
-fn first_held(tile: usize, side: usize, step: usize) -> usize
-    requires { ⌜ (tile ≤ 8292) × (side ≤ 64) × (1 ≤ step) × (step ≤ 4) ⌝ }
-    ensures { λ r. ⌜ r ≡ ceilingDiv (tile * side) step ⌝ }
+// The first row or column of the output that lies in this part of a line of parts, or further on.
+fn first_held(part: usize, side: usize, step: usize) -> usize
+    requires { ⌜ (part ≤ 8292) × (side ≤ 256) × (1 ≤ step) × (step ≤ 4) ⌝ }
+    ensures { λ r. ⌜ r ≡ ceilingDiv (part * side) step ⌝ }
 {
-    ceiling_div(tile * side, step)
+    ceiling_div(part * side, step)
 }
 
-// The first row or column after this tile, or `count` where there is none.
-fn end_held(tile: usize, side: usize, step: usize, count: usize) -> usize
-    requires { ⌜ (tile < 8292) × (side ≤ 64) × (1 ≤ step) × (step ≤ 4) ⌝ }
-    ensures { λ r. ⌜ r ≡ min (ceilingDiv ((tile + 1) * side) step) count ⌝ }
+// The first row or column after this part, or `count` where there is none.
+fn end_held(part: usize, side: usize, step: usize, count: usize) -> usize
+    requires { ⌜ (part < 8292) × (side ≤ 256) × (1 ≤ step) × (step ≤ 4) ⌝ }
+    ensures { λ r. ⌜ r ≡ min (ceilingDiv ((part + 1) * side) step) count ⌝ }
 {
-    lesser(first_held(tile + 1, side, step), count)
+    lesser(first_held(part + 1, side, step), count)
 }
 
-// Which of `count` rows or columns of the output lie in this tile of a line of tiles.
-fn held_in(layer: Layer, tile: usize, count: usize) -> Held
-    requires { ⌜ Planned layer × Wanted layer count × (tile < ceilingDiv (span layer count) (tileSide layer)) ⌝ }
-    ensures { λ r. ⌜ HeldBy layer tile count r ⌝ }
+// Which of `count` rows or columns of the output lie in this part of a line of parts, each of `side` grid places.
+pub fn held_in(layer: Layer, side: usize, part: usize, count: usize) -> Held
+    requires { ⌜ Planned layer × Wanted layer count × (gridStep layer ≤ side) × (side ≤ 256) × (part < ceilingDiv (span layer count) side) ⌝ }
+    ensures { λ r. ⌜ HeldBy layer side part count r ⌝ }
 {
-    let side = sizes::tile_side(layer);
     let step = sizes::grid_step(layer);
-    let first = first_held(tile, side, step);
-    let end = end_held(tile, side, step, count);
+    let first = first_held(part, side, step);
+    let end = end_held(part, side, step, count);
     let count_held = end - first;
-    let word = layer.side - 1 + (first * step - tile * side);
+    let word = layer.side - 1 + (first * step - part * side);
     Held {
         first: first,
         count: count_held,
@@ -145,8 +144,9 @@ pub fn store_tile(output: &mut [i32], words: &[u64], layer: Layer, tile: usize)
     ensures { λ _. ⌜ Written (pos 0) (λ p. tileOf layer p ≡ tile) (storedAt layer tile (now (words .entry))) (now (output .entry)) (now (output .exit)) ⌝ }
 {
     let place = place::place_of(layer, tile);
-    let rows = held_in(layer, place.row, layer.rows);
-    let columns = held_in(layer, place.column, layer.columns);
+    let side = sizes::tile_side(layer);
+    let rows = held_in(layer, side, place.row, layer.rows);
+    let columns = held_in(layer, side, place.column, layer.columns);
     let from = place.channel * (layer.rows * layer.columns);
     store_rows(&mut output[from..], words, layer, rows, columns);
 }

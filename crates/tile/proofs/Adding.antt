@@ -1,12 +1,11 @@
 -- One map channel's work on scratch, three parts of N² words: the sum of products, the kernel, the window. The kernel and the window are
 -- transformed in parts that are lent; then their product is added to the sum. It rests on the laws of spectra (SpectrumLaws), of
--- parts (PlacesLaws), and on what the circular sum of one map channel represents (TileReads).
-use mathlib.Core.Path.{subst, _≡_, refl, sym, ap, _∙_}
+-- parts that are lent (LendingLaws), and on what the circular sum of one map channel represents (TileReads).
+use mathlib.Core.Path.{subst, _≡_, refl, ap}
 use mathlib.Core.List.{List}
-use Prim.Native.Nat.{ℕ, _+_, _*_, _-_, _≤_, _<_}
+use Prim.Native.Nat.{ℕ, _+_, _*_, _≤_, _<_}
 use native.Mathlib.Nat.{zero-add, mul-le-mul}
 use native.Mathlib.Numerals.{add-one}
-use native.Mathlib.Decide.{decLt}
 use native.Mathlib.Omega.{arith}
 use lib.Dec.{eqb}
 use lib.IntN.{ℤ, pos}
@@ -15,13 +14,14 @@ use borrow.Rule.Slice.PartMut.{putMid}
 use Rattle.algebra.specs.Residue.{Represents}
 use Rattle.algebra.specs.SumLaws.{sumZ-none, sumZ-last}
 use Rattle.algebra.specs.Places.{Changed}
-use Rattle.algebra.specs.PlacesLaws.{getD-put-mid, changed-part, changed-again}
+use Rattle.algebra.specs.PlacesLaws.{changed-again}
 use Rattle.algebra.specs.CongruenceLaws.{c-eq}
 use Rattle.algebra.specs.ResidueLaws.{represents-add}
 use Rattle.fermat.specs.Field.{modulus, transformLength}
 use Rattle.fermat.specs.Transform.{circular2}
 use Rattle.spectrum.specs.Tile.{Spectrum}
 use Rattle.spectrum.specs.Product.{factorMost, productMost, Accumulated}
+use Rattle.spectrum.specs.LendingLaws.{Lending, kernel-word, window-word, lent-changed, lent-most}
 use Rattle.spectrum.specs.SpectrumLaws.{spectrum-none, spectrum-moved, spectrum-kept, spectrum-accumulated}
 use Rattle.layer.specs.PlannedLaws.{cond-le}
 use Rattle.layer.specs.Planned.{Planned}
@@ -32,74 +32,6 @@ use Rattle.tile.specs.declared.origin.Origin.{Origin}
 use Rattle.tile.specs.Channel.{area, KernelReady, KernelKept, WindowReady, Added}
 use Rattle.tile.proofs.KernelReady.{kernel-moved}
 use Rattle.tile.proofs.TileReads.{channel-represents}
-
--- ---- the two parts that are lent
-
--- from place a₁ on k₁ words are lent and come back as ks, then from a₂ on k₂ words, which come back as ws; A is N²
-pub record Lending (A a₁ k₁ a₂ k₂ : ℕ) (xs ks ws : List ℕ) : Type 0 where
-  pub kernel-at : a₁ ≡ A
-  pub kernel-count : k₁ ≡ A
-  pub window-at : a₂ ≡ 2 * A
-  pub window-count : k₂ ≡ A
-  pub room : 3 * A ≤ length xs
-  pub kernel-length : length ks ≡ A
-  pub window-length : length ws ≡ A
-
-module _ {A a₁ k₁ a₂ k₂ : ℕ} {xs ks ws : List ℕ} (p : Lending A a₁ k₁ a₂ k₂ xs ks ws) where
-  -- scratch after the first part came back, and after the second
-  abbrev one : List ℕ
-  one = putMid a₁ k₁ xs ks
-
-  abbrev both : List ℕ
-  both = putMid a₂ k₂ one ws
-
-  first-room : a₁ + k₁ ≤ length xs
-  first-room = omega (arith, p .kernel-at, p .kernel-count, p .room)
-
-  first-length : length ks ≡ k₁
-  first-length = p .kernel-length ∙ sym (p .kernel-count)
-
-  first : Changed 0 a₁ (a₁ + k₁) xs one
-  first = changed-part xs ks a₁ k₁ first-room first-length
-
-  second-room : a₂ + k₂ ≤ length one
-  second-room = omega (arith, first .same-length, p .window-at, p .window-count, p .room)
-
-  second-length : length ws ≡ k₂
-  second-length = p .window-length ∙ sym (p .window-count)
-
-  second : Changed 0 a₂ (a₂ + k₂) one both
-  second = changed-part one ws a₂ k₂ second-room second-length
-
-  lent-changed : Changed 0 A (3 * A) xs both
-  lent-changed =
-      changed-again A (3 * A) (omega (arith, p .kernel-at)) (omega (arith, p .window-at))
-      (omega (arith, p .kernel-at, p .kernel-count)) (omega (arith, p .window-at, p .window-count)) first second
-
-  -- the kernel's part and the window's are apart
-  kernel-word : (i : ℕ) → i < A → getD both (A + i) 0 ≡ getD ks i 0
-  kernel-word i h =
-      let e : A + i ≡ a₁ + i = omega (arith, p .kernel-at) in
-      second .before (A + i) (omega (arith, p .window-at)) ∙ ap (λ (j : ℕ). getD one j 0) e
-      ∙ getD-put-mid 0 xs ks a₁ k₁ first-room first-length i (omega (arith, p .kernel-count))
-
-  window-word : (i : ℕ) → i < A → getD both (A + A + i) 0 ≡ getD ws i 0
-  window-word i h =
-      let e : A + A + i ≡ a₂ + i = omega (arith, p .window-at) in
-      ap (λ (j : ℕ). getD both j 0) e ∙ getD-put-mid 0 one ws a₂ k₂ second-room second-length i (omega (arith, p .window-count))
-
-  -- a bound of both transforms
-  lent-most : {most : ℕ} → ((i : ℕ) → i < A → getD ks i 0 ≤ most) → ((i : ℕ) → i < A → getD ws i 0 ≤ most)
-      → (i : ℕ) → A ≤ i → i < 3 * A → getD both i 0 ≤ most
-  lent-most {most} kernel window i low high = go (decLt i (2 * A))
-    where
-      go : Dec (i < 2 * A) → getD both i 0 ≤ most
-      go (yes h) =
-          let e : i ≡ A + (i - A) = omega arith in
-          rw (ap (λ (j : ℕ). getD both j 0) e ∙ kernel-word (i - A) (omega arith)) (kernel (i - A) (omega arith))
-      go (no h) =
-          let e : i ≡ A + A + (i - 2 * A) = omega arith in
-          rw (ap (λ (j : ℕ). getD both j 0) e ∙ window-word (i - 2 * A) (omega arith)) (window (i - 2 * A) (omega arith))
 
 module _ (l : Layer) (map kernel : List ℤ) (o : Origin) where
   -- zs is scratch xs with the transforms of the kernel and of the window of map channel c in the second and the third part

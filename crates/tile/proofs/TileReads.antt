@@ -1,33 +1,32 @@
 -- The words of a tile read as the direct sums. Where words represent the tile's windows and weights, their circular sums over all map
--- channels represent the direct sums (WindowIdentity, Folding), and these are within the load limit, so that they are read back (`Reading`).
+-- channels represent the direct sums (WindowIdentity, FoldingLaws), and these are within the load limit (CallableLaws), so that they are read
+-- back (ReadingLaws).
 use mathlib.Core.Path.{_≡_, sym, subst}
 use mathlib.Core.Logic.{_⊎_}
 use mathlib.Core.List.{List}
 use Prim.Native.Nat.{ℕ, _+_, _*_, _-_, _/_, _%_, _^_, _<_, _≤_}
-use native.Mathlib.Nat.{le-trans, mul-assoc}
 use native.Mathlib.Omega.{arith}
-use lib.IntN.{ℤ, natAbs}
+use lib.IntN.{ℤ}
 use Rattle.algebra.specs.Residue.{Represents}
 use Rattle.algebra.specs.Sum.{sumZ}
 use Rattle.algebra.specs.ResidueLaws.{represents-mul, represents-sum}
 use Rattle.fermat.specs.Field.{modulus, transformLength}
 use Rattle.fermat.specs.Transform.{circular2}
+use Rattle.fermat.specs.FoldingLaws.{folding2}
 use Rattle.spectrum.specs.ValueLaws.{Moved}
 use Rattle.layer.specs.Planned.{Planned}
 use Rattle.layer.specs.declared.shape.Layer.{Layer}
-use Rattle.layer.specs.Shape.{tileSide, gridStep, channelOf, rowOf, columnOf, tileOf, tileChannel, tileRow, tileColumn, rowInTile, columnInTile}
+use Rattle.layer.specs.Shape.{tileSide, gridStep, rowOf, columnOf, tileOf, tileChannel, tileRow, tileColumn, rowInTile, columnInTile}
 use Rattle.layer.specs.Direct.{directAt, planeOf}
 use Rattle.layer.specs.TileSizeLaws.{length-low}
-use Rattle.layer.specs.TileLaws.{InTile, planned-tiled, to-tile, channel-lt}
-use Rattle.load.specs.Load.{loadLimit}
-use Rattle.load.specs.LoadLaws.{peak-bounds, load-fits, direct-load}
+use Rattle.layer.specs.TileLaws.{InTile, planned-tiled, to-tile}
 use Rattle.checks.specs.Callable.{Callable}
 use Rattle.checks.specs.Engine.{tileEngine}
+use Rattle.checks.specs.CallableLaws.{direct-fits}
 use Rattle.window.specs.Window.{windowAt, weightAt, channelSum}
+use Rattle.store.specs.ReadingLaws.{field-reading}
 use Rattle.tile.specs.Start.{firstRow, firstColumn}
 use Rattle.tile.proofs.WindowIdentity.{tile-sum}
-use Rattle.tile.proofs.Folding.{folding}
-use Rattle.tile.proofs.Reading.{field-reading}
 
 -- ---- the row and the column of a place, K − 1 further on, lie within the window
 
@@ -58,7 +57,7 @@ module _ (l : Layer) (plan : Planned l) where
         → Represents (modulus (l .field)) (channelSum l map kernel m row column c i j) (circular2 (transformLength (l .field)) weight window i j)
     unfolding channelSum
     channel-represents i j row-low row-high column-low column-high =
-        rw (folding (transformLength (l .field)) (l .side) short weight window empty i j row-low row-high column-low column-high)
+        rw (folding2 (transformLength (l .field)) (l .side) short weight window empty i j row-low row-high column-low column-high)
         (represents-sum (l .side) (λ a k. represents-sum (l .side) (λ b h.
         represents-mul (weights a b k h) (windows (i - a) (j - b) (omega arith) (omega arith)))))
 
@@ -68,23 +67,11 @@ module _ (l : Layer) (map kernel : List ℤ) (output scratch t : ℕ) (callable 
   plan : Planned l
   plan = callable .plan
 
-  -- the direct sums are within the load limit
-  direct-fits : (p : ℕ) → p < output → natAbs (directAt l map kernel p) ≤ loadLimit (l .field)
-  unfolding directAt
-  direct-fits p h =
-      le-trans
-      (direct-load l map kernel (plan .shape .stride-low) (peak-bounds (l .peak) map (callable .values))
-      (channelOf l p) (l .top + rowOf l p) (l .left + columnOf l p))
-      (load-fits l kernel (callable .loads) (channelOf l p) (channel-lt l (planned-tiled l plan) p place))
-    where
-      place : p < l .outputs * (l .rows * l .columns)
-      place = omega (arith, h, callable .output-length, mul-assoc (l .outputs) (l .rows) (l .columns))
-
   -- a word for that sum at place p of tile t reads as the direct sum
   pub tile-reads : {v : ℕ} (p : ℕ) → p < output → tileOf l p ≡ t
       → Represents (modulus (l .field)) (sumZ (l .inputs) (λ c.
       channelSum l map kernel (tileChannel l t) (firstRow l t) (firstColumn l t) c (l .side - 1 + rowInTile l t p) (l .side - 1 + columnInTile l t p))) v
       → Moved (2 ^ (2 ^ l .field) / 2) 2147483647 (directAt l map kernel p) ((v + 2 ^ (2 ^ l .field) / 2) % modulus (l .field))
   tile-reads {v} p h e sum =
-      field-reading (l .field) (plan .shape .field-low) (plan .shape .field-high) (direct-fits p h)
+      field-reading (l .field) (plan .shape .field-low) (plan .shape .field-high) (direct-fits tileEngine l map kernel output scratch callable p h)
       (subst (λ z. Represents (modulus (l .field)) z v) (sym (tile-sum l map kernel plan t p (to-tile l (planned-tiled l plan) t p e))) sum)

@@ -1,6 +1,7 @@
 // Where the windows of a tile begin.
 use layer::place;
 use layer::shape::Layer;
+use layer::sizes;
 ghost use mathlib.Core.Path.{_≡_};
 ghost use Prim.Native.Nat.{_<_};
 ghost use Rattle.layer.specs.Planned.{Planned};
@@ -21,9 +22,10 @@ pub(crate) fn origin_of(layer: Layer, tile: usize) -> Origin
     ensures { λ r. ⌜ OriginInRange layer r ⌝ }
 {
     let place = place::place_of(layer, tile);
+    let side = sizes::tile_side(layer);
     Origin {
         channel: place.channel,
-        row: place::grid_start(layer, layer.top, place.row),
-        column: place::grid_start(layer, layer.left, place.column),
+        row: place::grid_start(layer, layer.top, place.row, side),
+        column: place::grid_start(layer, layer.left, place.column, side),
     }
 }

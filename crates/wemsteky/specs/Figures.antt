@@ -11,15 +11,15 @@ use Rattle.engine.specs.declared.job.Job.{Job}
 use Rattle.engine.specs.declared.job.Progress.{Progress}
 use Rattle.engine.specs.Call.{Called}
 
--- E, F, the tile total and 3N²
+-- E, F, the total of parts and the words of scratch
 abbrev pub planFigures : Plan → List ℕ
-planFigures plan = plan .height ∷ plan .width ∷ plan .tiles ∷ plan .scratch ∷ []
+planFigures plan = plan .height ∷ plan .width ∷ plan .parts ∷ plan .scratch ∷ []
 
 -- the channel, row, column and side of a map value beyond the peak
 abbrev pub offenderFigures : Offender → List ℕ
 offenderFigures offender = offender .channel ∷ offender .row ∷ offender .column ∷ offender .side ∷ []
 
--- the count, the index of the next tile, 1 where done, and the map value that 15 and 25 speak of
+-- the count, the index of the next part, 1 where done, and the map value that 15 and 25 speak of
 abbrev pub progressFigures : Progress → List ℕ
 progressFigures progress = progress .count ∷ progress .job .next ∷ cond (progress .done) 1 0 ∷ offenderFigures (progress .offender)
 

@@ -3,12 +3,14 @@ use checks::planner;
 use engine::job::Job;
 use engine::job::Progress;
 use layer::numbers::layer_of;
+use layer::shape::Plan;
 ghost use mathlib.Core.Path.{_≡_};
 ghost use lib.ListN.{length};
 ghost use Rattle.transform.specs.Answer.{transformCode, transformed, inverted};
 ghost use Rattle.layer.specs.Shape.{tileTotal};
+ghost use Rattle.layer.specs.Strip.{stripTotal};
 ghost use Rattle.layer.specs.Numbers.{layerOf};
-ghost use Rattle.checks.specs.Engine.{tileEngine};
+ghost use Rattle.checks.specs.Engine.{tileEngine, stripEngine};
 ghost use Rattle.checks.specs.Checks.{planOf};
 ghost use Rattle.engine.specs.Call.{startOf};
 ghost use Rattle.levels.specs.Answer.{levelsCode, levelsLeft};
@@ -17,18 +19,34 @@ ghost use Rattle.join.specs.Answer.{joinCode, joinLeft};
 ghost use Rattle.worst.specs.Answer.{worstCode, worstLeft};
 ghost use Rattle.wemsteky.specs.Figures.{planFigures, progressFigures, Reported};
 
-// E, F, the tile total and 3N²; zeros where the layer is refused.
+// E, F, the total of parts and the words of scratch; zeros where the layer is refused.
+fn show_plan(plan: Plan, figures: &mut [usize; 4]) -> usize
+    ensures { λ r. ⌜ r ≡ plan .code ⌝ }
+    ensures { λ _. ⌜ now (figures .exit) ≡ planFigures plan ⌝ }
+{
+    *figures = [plan.height, plan.width, plan.parts, plan.scratch];
+    plan.code
+}
+
+// By tiles.
 #[no_mangle]
 pub extern "C" fn wemsteky_plan(layer: &[usize; 16], figures: &mut [usize; 4]) -> usize
     ensures { λ r. ⌜ r ≡ planOf tileEngine (layerOf (now (layer .entry))) .code ⌝ }
     ensures { λ _. ⌜ now (figures .exit) ≡ planFigures (planOf tileEngine (layerOf (now (layer .entry)))) ⌝ }
 {
-    let plan = planner::plan(layer_of(layer));
-    *figures = [plan.height, plan.width, plan.tiles, plan.scratch];
-    plan.code
+    show_plan(planner::plan(layer_of(layer)), figures)
 }
 
-// The count, the index of the next tile and the done mark of a call; channel, row, column and side of the map value that 15 and 25 speak of.
+// By strips.
+#[no_mangle]
+pub extern "C" fn wemsteky_strip_plan(layer: &[usize; 16], figures: &mut [usize; 4]) -> usize
+    ensures { λ r. ⌜ r ≡ planOf stripEngine (layerOf (now (layer .entry))) .code ⌝ }
+    ensures { λ _. ⌜ now (figures .exit) ≡ planFigures (planOf stripEngine (layerOf (now (layer .entry)))) ⌝ }
+{
+    show_plan(planner::plan_strips(layer_of(layer)), figures)
+}
+
+// The count, the index of the next part and the done mark of a call; channel, row, column and side of the map value that 15 and 25 speak of.
 fn report(progress: Progress, figures: &mut [usize; 7]) -> usize
     ensures { λ r. ⌜ r ≡ progress .code ⌝ }
     ensures { λ _. ⌜ now (figures .exit) ≡ progressFigures progress ⌝ }
@@ -44,6 +62,16 @@ fn report(progress: Progress, figures: &mut [usize; 7]) -> usize
         progress.offender.side,
     ];
     progress.code
+}
+
+// The job of a layer at that part.
+fn job_of(layer: &[usize; 16], next: usize) -> Job
+    ensures { λ r. ⌜ r ≡ record { layer = layerOf (now (layer .entry)); next = next } ⌝ }
+{
+    Job {
+        layer: layer_of(layer),
+        next: next,
+    }
 }
 
 #[no_mangle]
@@ -62,6 +90,21 @@ pub extern "C" fn wemsteky_run(
 }
 
 #[no_mangle]
+pub extern "C" fn wemsteky_strip_run(
+    layer: &[usize; 16],
+    map: &[i16],
+    kernel: &[i16],
+    output: &mut [i32],
+    scratch: &mut [u64],
+    figures: &mut [usize; 7],
+) -> usize
+    ensures { λ r. ⌜ Reported stripEngine (startOf (layerOf (now (layer .entry)))) (stripTotal (layerOf (now (layer .entry)))) (now (map .entry)) (now (kernel .entry)) (now (output .entry)) (now (scratch .entry)) r (now (figures .exit)) (now (output .exit)) (now (scratch .exit)) ⌝ }
+{
+    let progress = engine::run_strips(layer_of(layer), map, kernel, output, scratch);
+    report(progress, figures)
+}
+
+#[no_mangle]
 pub extern "C" fn wemsteky_job(
     layer: &[usize; 16],
     next: usize,
@@ -74,11 +117,26 @@ pub extern "C" fn wemsteky_job(
 ) -> usize
     ensures { λ r. ⌜ Reported tileEngine (record { layer = layerOf (now (layer .entry)); next = next }) budget (now (map .entry)) (now (kernel .entry)) (now (output .entry)) (now (scratch .entry)) r (now (figures .exit)) (now (output .exit)) (now (scratch .exit)) ⌝ }
 {
-    let job = Job {
-        layer: layer_of(layer),
-        next: next,
-    };
+    let job = job_of(layer, next);
     let progress = job.advance(budget, map, kernel, output, scratch);
+    report(progress, figures)
+}
+
+#[no_mangle]
+pub extern "C" fn wemsteky_strip_job(
+    layer: &[usize; 16],
+    next: usize,
+    budget: usize,
+    map: &[i16],
+    kernel: &[i16],
+    output: &mut [i32],
+    scratch: &mut [u64],
+    figures: &mut [usize; 7],
+) -> usize
+    ensures { λ r. ⌜ Reported stripEngine (record { layer = layerOf (now (layer .entry)); next = next }) budget (now (map .entry)) (now (kernel .entry)) (now (output .entry)) (now (scratch .entry)) r (now (figures .exit)) (now (output .exit)) (now (scratch .exit)) ⌝ }
+{
+    let job = job_of(layer, next);
+    let progress = job.advance_strips(budget, map, kernel, output, scratch);
     report(progress, figures)
 }
 

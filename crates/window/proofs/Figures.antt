@@ -10,13 +10,11 @@ use borrow.Author.Tests.{le-leb, lt-leb, eq-eqb, ne-eqb}
 use lib.Dec.{ltb}
 use Rattle.base.specs.NumberLaws.{ceiling-covers, ceiling-lt, ceiling-starts}
 use Rattle.base.specs.Number.{ceilingDiv}
-use Rattle.fermat.specs.Field.{transformLength}
 use Rattle.layer.specs.Windows.{spread}
 use Rattle.layer.specs.PlannedLaws.{cond-le}
 use Rattle.layer.specs.Planned.{InRange}
 use Rattle.layer.specs.declared.shape.Layer.{Layer}
 use Rattle.layer.specs.Shape.{isConv}
-use Rattle.layer.specs.TileSizeLaws.{length-low}
 use Rattle.window.specs.Window.{spacing, edge}
 use Rattle.window.specs.Shows.{Shows}
 
@@ -55,15 +53,15 @@ module _ (l : Layer) (r : InRange l) (column first begin : ℕ) (first-is : firs
   pub first-high : first * spacing l ≤ column + 10
   first-high = omega (arith, begin-high)
 
-  pub shows : (room count : ℕ) → column ≤ 10000 → room ≡ ceilingDiv (transformLength (l .field) - begin) (spacing l)
+  pub shows : (n room count : ℕ) → column ≤ 10000 → 16 ≤ n → room ≡ ceilingDiv (n - begin) (spacing l)
       → count ≤ room → count ≤ l .width - first → ((i : ℕ) → i < room → i < l .width - first → i < count)
-      → Shows l column (record { spacing = spacing l; first = first; begin = begin; count = count })
-  shows room count near room-is in-room in-width most = record {
+      → Shows l n column (record { spacing = spacing l; first = first; begin = begin; count = count })
+  shows n room count near wide room-is in-room in-width most = record {
     fitting = record {
       inside = record {
         apart = spacing-low l r;
-        begins = omega (arith, begin-high, length-low l r);
-        ends = λ i h. omega (arith, ceiling-starts (transformLength (l .field) - begin) (spacing l) i (spacing-low l r) (omega arith));
+        begins = omega (arith, begin-high);
+        ends = λ i h. omega (arith, ceiling-starts (n - begin) (spacing l) i (spacing-low l r) (omega arith));
       };
       spacing-is = refl;
       in-map = λ i h. omega arith;
@@ -78,10 +76,10 @@ module _ (l : Layer) (r : InRange l) (column first begin : ℕ) (first-is : firs
       at-least j h (yes k) = absurd (omega (arith, starts j k))
       at-least j h (no k) = omega arith
 
-      roomy : (i : ℕ) → i * spacing l < transformLength (l .field) - begin → i < room
+      roomy : (i : ℕ) → i * spacing l < n - begin → i < room
       roomy i h =
           let some = spacing-low l r in
-          omega (arith, rw (mul-div-cancel i some) at (ceiling-lt (transformLength (l .field) - begin) (spacing l) (i * spacing l) some h))
+          omega (arith, rw (mul-div-cancel i some) at (ceiling-lt (n - begin) (spacing l) (i * spacing l) some h))
 
 -- the tests that the code makes of a grid row
 module _ (S edge size line : ℕ) where

@@ -4,7 +4,6 @@ use mathlib.Core.List.{List}
 use Prim.Native.Nat.{ℕ, _+_, _*_, _-_, _/_, _≤_, _<_}
 use lib.IntN.{ℤ, pos}
 use lib.ListN.{getD}
-use Rattle.fermat.specs.Field.{transformLength}
 use Rattle.layer.specs.Windows.{spread}
 use Rattle.layer.specs.declared.shape.Layer.{Layer}
 use Rattle.layer.specs.Direct.{when}
@@ -18,18 +17,18 @@ pub record Inside (n : ℕ) (s : Shown) : Type 0 where
   pub ends : (i : ℕ) → i < s .count → s .begin + i * s .spacing < n
 
 -- and within the map
-pub record Fitting (l : Layer) (s : Shown) : Type 0 where
-  pub inside : Inside (transformLength (l .field)) s
+pub record Fitting (l : Layer) (n : ℕ) (s : Shown) : Type 0 where
+  pub inside : Inside n s
   pub spacing-is : s .spacing ≡ spacing l
   pub in-map : (i : ℕ) → i < s .count → s .first + i < l .width
   pub small : s .first ≤ 20000
 
--- s is what a row of the window that begins at `column` shows
-pub record Shows (l : Layer) (column : ℕ) (s : Shown) : Type 0 where
-  pub fitting : Fitting l s
+-- s is what a row of n places of the window that begins at `column` shows
+pub record Shows (l : Layer) (n column : ℕ) (s : Shown) : Type 0 where
+  pub fitting : Fitting l n s
   pub place : column + s .begin ≡ edge l + s .first * s .spacing
   pub least : (j : ℕ) → column ≤ edge l + j * s .spacing → s .first ≤ j
-  pub all : (i : ℕ) → s .first + i < l .width → s .begin + i * s .spacing < transformLength (l .field) → i < s .count
+  pub all : (i : ℕ) → s .first + i < l .width → s .begin + i * s .spacing < n → i < s .count
 
 -- the value at place p of a row of the window whose places begin at `at`; the first value that it shows is the one at `from`
 abbrev pub shownAt : Shown → (at : ℕ) → List ℤ → (from p : ℕ) → ℤ

@@ -1,4 +1,4 @@
-// A plane of the kernel as the corner of a tile: N rows of K words, of which the first K hold the weights and the others 0.
+// Weights as words; and a plane of the kernel as the corner of a tile: N rows of K words, of which the first K hold the weights and the others 0.
 use crate::runs::load_run;
 use base::words::clear;
 use fermat::field;
@@ -11,7 +11,7 @@ ghost use lib.ListN.{length, getD};
 ghost use Rattle.algebra.specs.Places.{Run};
 ghost use Rattle.fermat.specs.Field.{transformLength};
 ghost use Rattle.layer.specs.Planned.{InRange};
-ghost use Rattle.window.specs.Loaded.{Loaded, HoldsKernel};
+ghost use Rattle.window.specs.Loaded.{Loaded, HoldsWeights, HoldsKernel};
 
 // The first `count` words hold `count` values from the value `from` on, the last of them first.
 fn load_turned(words: &mut [u64], count: usize, values: &[i16], from: usize, modulus: u64)
@@ -27,6 +27,20 @@ fn load_turned(words: &mut [u64], count: usize, values: &[i16], from: usize, mod
     }
 }
 
+// The first `count` words hold `count` weights from the weight `from` on, turned round in CONV: the last of them first. The others are 0.
+pub fn load_weights(words: &mut [u64], layer: Layer, kernel: &[i16], from: usize, count: usize)
+    requires { ⌜ InRange layer × (count ≤ length (now words)) × (from + count ≤ length (now kernel)) ⌝ }
+    ensures { λ _. ⌜ HoldsWeights layer (now (kernel .entry)) from count (now (words .exit)) ⌝ }
+{
+    let modulus = field::modulus_of(layer.field);
+    if layer.kind == 0 {
+        load_turned(words, count, kernel, from, modulus);
+    } else {
+        load_run(words, 0, count, kernel, from, modulus);
+    }
+    clear(words, count, words.len());
+}
+
 // The weights of a plane, turned round in CONV: their order is reversed in rows and in columns, so in the plane.
 pub fn load_kernel(words: &mut [u64], layer: Layer, kernel: &[i16], plane: usize)
     requires { ⌜ InRange layer × (length (now words) ≡ transformLength (layer .field) * layer .side) ⌝ }
@@ -34,12 +48,5 @@ pub fn load_kernel(words: &mut [u64], layer: Layer, kernel: &[i16], plane: usize
     ensures { λ _. ⌜ HoldsKernel layer (now (kernel .entry)) plane (now (words .exit)) ⌝ }
 {
     let count = layer.side * layer.side;
-    let modulus = field::modulus_of(layer.field);
-    let from = plane * count;
-    if layer.kind == 0 {
-        load_turned(words, count, kernel, from, modulus);
-    } else {
-        load_run(words, 0, count, kernel, from, modulus);
-    }
-    clear(words, count, words.len());
+    load_weights(words, layer, kernel, plane * count, count);
 }

@@ -1,4 +1,5 @@
-// The window of a map channel as a tile of N by N words. Of the map only the values that the window shows are read.
+// The window of a map channel as a tile of N by N words, and one row of a window as n words. Of the map only the values that the window shows are
+// read.
 use base::words::clear;
 use fermat::field;
 use layer::shape::Layer;
@@ -22,7 +23,7 @@ ghost use Rattle.window.specs.Shows.{Inside, Fitting, shownAt, lineAt};
 
 pub mod kernel;
 mod runs;
-mod shown;
+pub mod shown;
 
 // The words `spacing` apart from `at` on hold `count` values, from the value `from` on.
 fn load_apart(
@@ -81,21 +82,21 @@ fn load_row(
     }
 }
 
-// The N words from `at` on: what a window shows of a map channel in the grid row `line`.
-fn load_line(
+// The n words from `at` on: what a row of the window shows of a map channel in the grid row `line`.
+pub fn load_line(
     words: &mut [u64],
     at: usize,
+    n: usize,
     layer: Layer,
     shown: Shown,
     map: &[i16],
     channel: usize,
     line: usize,
 )
-    requires { ⌜ InRange layer × Fitting layer shown × (at + transformLength (layer .field) ≤ length (now words)) ⌝ }
+    requires { ⌜ InRange layer × Fitting layer n shown × (at + n ≤ length (now words)) ⌝ }
     requires { ⌜ (length (now map) ≡ layer .inputs * layer .height * layer .width) × (channel < layer .inputs) ⌝ }
-    ensures { λ _. ⌜ Loaded (modulus (layer .field)) (Run at (transformLength (layer .field))) (λ p. lineAt layer shown (now (map .entry)) channel line at p) (now (words .entry)) (now (words .exit)) ⌝ }
+    ensures { λ _. ⌜ Loaded (modulus (layer .field)) (Run at n) (λ p. lineAt layer shown (now (map .entry)) channel line at p) (now (words .entry)) (now (words .exit)) ⌝ }
 {
-    let n = field::transform_length(layer.field);
     if has_values(layer, line) {
         let map_row = (line - edge_of(layer)) / shown.spacing;
         let from = (channel * layer.height + map_row) * layer.width + shown.first;
@@ -127,10 +128,10 @@ pub fn load_window(
     ensures { λ _. ⌜ HoldsWindow layer (now (map .entry)) channel row column (now (words .exit)) ⌝ }
 {
     let n = field::transform_length(layer.field);
-    let shown = shown_of(layer, column);
+    let shown = shown_of(layer, column, n);
     let mut u = 0;
     while u < n {
-        load_line(words, u * n, layer, shown, map, channel, row + u);
+        load_line(words, u * n, n, layer, shown, map, channel, row + u);
         u += 1;
     }
 }

@@ -1,6 +1,5 @@
 // What the rows of a window show of the rows of the map, and where. It is the same for every row of the window, but for the map row.
 use base::number::ceiling_div;
-use fermat::field;
 use layer::shape::Layer;
 ghost use mathlib.Core.Path.{_≡_};
 ghost use Prim.Native.Nat.{_-_, _≤_};
@@ -44,16 +43,16 @@ fn above(a: usize, b: usize) -> usize
     if a < b { b - a } else { 0 }
 }
 
-// What a row of the window that begins at `column` shows.
-pub(crate) fn shown_of(layer: Layer, column: usize) -> Shown
-    requires { ⌜ InRange layer × (column ≤ 10000) ⌝ }
-    ensures { λ r. ⌜ Shows layer column r ⌝ }
+// What a row of n places of the window that begins at `column` shows.
+pub fn shown_of(layer: Layer, column: usize, n: usize) -> Shown
+    requires { ⌜ InRange layer × (column ≤ 10000) × (16 ≤ n) × (n ≤ 256) ⌝ }
+    ensures { λ r. ⌜ Shows layer n column r ⌝ }
 {
     let spacing = spacing_of(layer);
     let before = edge_of(layer);
     let first = ceiling_div(above(before, column), spacing);
     let begin = before + first * spacing - column;
-    let room = ceiling_div(field::transform_length(layer.field) - begin, spacing);
+    let room = ceiling_div(n - begin, spacing);
     let left = above(first, layer.width);
     let count = if room < left { room } else { left };
     Shown {
@@ -65,7 +64,7 @@ pub(crate) fn shown_of(layer: Layer, column: usize) -> Shown
 }
 
 // Whether the grid row `line` holds a row of the map.
-pub(crate) fn has_values(layer: Layer, line: usize) -> bool
+pub fn has_values(layer: Layer, line: usize) -> bool
     requires { ⌜ InRange layer ⌝ }
     ensures { λ r. ⌜ r ≡ spread (spacing layer) (edge layer) (layer .height) line ⌝ }
 {

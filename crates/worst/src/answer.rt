@@ -1,6 +1,7 @@
 // The checks of `worst_map`, in the order of its answers: 1 to 9 with 23 of the layer, 10, 11 and 14, then 24 and 29.
 use crate::window::has_window;
 use base::rules;
+use checks::method::Method;
 use checks::planner::plan_code;
 use layer::shape::Layer;
 use layer::sizes;
@@ -36,7 +37,7 @@ fn shown_code(layer: Layer, kernel: &[i16]) -> usize
 pub(crate) fn worst_code(layer: Layer, kernel: &[i16], room: usize) -> usize
     ensures { λ r. ⌜ r ≡ worstCode layer (now (kernel .entry)) room ⌝ }
 {
-    let plan = plan_code(layer);
+    let plan = plan_code(Method::Tiles, layer);
     if plan != 0 {
         return plan;
     }

@@ -3,7 +3,7 @@ use mathlib.Core.Path.{ap₂}
 use mathlib.Core.Bool.{_&&_}
 use borrow.Author.Needs.{needs}
 use Rattle.algebra.specs.EveryLaws.{both-true}
-use Rattle.checks.specs.EngineLaws.{tile-lawful}
+use Rattle.checks.specs.EngineLaws.{lawful}
 use Rattle.product_sums.proofs.ThreeCalls.{lists-agree}
 use Rattle.product_sums.proofs.both_kinds.Statement.{statement}
 use Rattle.product_sums.proofs.both_kinds.Tie as tie
@@ -29,7 +29,8 @@ returns c =
     let forward = backward .before .before .before .before .before .before in
     let us = forward .three-calls in
     let vs = backward .three-calls2 in
-    let same = us .kept .1 .1 .1 .1 .1 .0 in (
+    let g = forward .before .before .before .before .args in
+    let same = us .kept .1 .1 .1 .1 .1 .1 .0 in (
       ap₂ _&&_ (us .ensures .0) (rw same at (vs .ensures .0)),
       (
         us .ensures .1 .0,
@@ -39,7 +40,7 @@ returns c =
             rw (us .ensures .1 .1 .0) at (vs .ensures .1 .1 .0),
             λ paired done.
                 let (first, second) = both-true (us .result) (vs .result) done in
-                lists-agree tile-lawful tile-lawful (us .ensures .1 .1 .1) (vs .ensures .1 .1 .1) paired first second,
+                lists-agree (lawful (g .conv-method)) (lawful (g .tconv-method)) (us .ensures .1 .1 .1) (vs .ensures .1 .1 .1) paired first second,
           ),
         ),
       ),

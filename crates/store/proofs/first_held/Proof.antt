@@ -6,7 +6,7 @@ use borrow.Author.Needs.{needs}
 use Rattle.store.proofs.first_held.Statement.{statement}
 use Rattle.store.proofs.first_held.Tie as tie
 
-product : (c : tie.Start) → c .args .tile * c .args .side ≤ 8292 * 64
+product : (c : tie.Start) → c .args .part * c .args .side ≤ 8292 * 256
 product c = mul-le-mul (c .pre .0) (c .pre .1)
 
 mul-ceiling-div : tie.Need-mul-ceiling-div

@@ -1,14 +1,15 @@
 -- `store_tile` finds what the tile holds and lends its channel. That the rows stored are the tile stored is shown in HeldPlaces.
-use mathlib.Core.Path.{_≡_, ap}
-use Prim.Native.Nat.{ℕ, _+_, _-_, _*_, _≤_}
+use mathlib.Core.Path.{_≡_, ap, subst}
+use Prim.Native.Nat.{ℕ, _+_, _-_, _*_, _≤_, _<_}
 use native.Mathlib.Nat.{mul-le-mul-right}
 use native.Mathlib.Omega.{arith}
 use borrow.Author.Needs.{needs}
 use lib.ListN.{length, drop, length-drop}
 use lib.Seq.{length-take-le}
 use denote.Ref.{now}
-use Rattle.layer.specs.Shape.{tileChannel, tileRow, tileColumn}
-use Rattle.layer.specs.TileSizeLaws.{rows-wanted, columns-wanted}
+use Rattle.base.specs.Number.{ceilingDiv}
+use Rattle.layer.specs.Shape.{tileSide, gridStep, span, tileChannel, tileRow, tileColumn}
+use Rattle.layer.specs.TileSizeLaws.{tile-side-high, rows-wanted, columns-wanted}
 use Rattle.layer.specs.TileLaws.{planned-tiled, tile-channel-lt}
 use Rattle.layer.specs.PlaceLaws.{tile-row-lt, tile-column-lt}
 use Rattle.store.specs.Held.{HeldBy}
@@ -19,24 +20,34 @@ use Rattle.store.proofs.store_tile.Tie as tie
 -- the rows held, by the definition
 module _ (c : tie.After-held-in) where
   abbrev start : tie.Start
-  start = c .before .before .before
+  start = c .before .before .before .before
 
-  rows-held : let a = start .args in HeldBy (a .layer) (tileRow (a .layer) (a .tile)) (a .layer .rows) (c .held-in .result)
-  rows-held = rw (c .before .place-of .ensures .1) at (c .held-in .ensures)
+  abbrev placed : tie.After-place-of
+  placed = c .before .before
+
+  rows-held : let a = start .args in HeldBy (a .layer) (tileSide (a .layer)) (tileRow (a .layer) (a .tile)) (a .layer .rows) (c .held-in .result)
+  rows-held =
+      let a = start .args in
+      subst (λ (side : ℕ). HeldBy (a .layer) side (tileRow (a .layer) (a .tile)) (a .layer .rows) (c .held-in .result))
+      (c .before .tile-side .ensures) (rw (placed .place-of .ensures .1) at (c .held-in .ensures))
 
 -- the columns held
 module _ (c : tie.After-held-in2) where
-  columns-held : let a = start (c .before) .args in HeldBy (a .layer) (tileColumn (a .layer) (a .tile)) (a .layer .columns) (c .held-in2 .result)
-  columns-held = rw (c .before .before .place-of .ensures .2) at (c .held-in2 .ensures)
+  columns-held : let a = start (c .before) .args in
+      HeldBy (a .layer) (tileSide (a .layer)) (tileColumn (a .layer) (a .tile)) (a .layer .columns) (c .held-in2 .result)
+  columns-held =
+      let a = start (c .before) .args in
+      subst (λ (side : ℕ). HeldBy (a .layer) side (tileColumn (a .layer) (a .tile)) (a .layer .columns) (c .held-in2 .result))
+      (c .before .before .tile-side .ensures) (rw (placed (c .before) .place-of .ensures .2) at (c .held-in2 .ensures))
 
   -- the first place of the part that is lent
   abbrev from : ℕ
-  from = let l = start (c .before) .args .layer in c .before .before .place-of .result .channel * (l .rows * l .columns)
+  from = let l = start (c .before) .args .layer in placed (c .before) .place-of .result .channel * (l .rows * l .columns)
 
   from-is : let a = start (c .before) .args in from ≡ tileChannel (a .layer) (a .tile) * (a .layer .rows * a .layer .columns)
   from-is =
       let l = start (c .before) .args .layer in
-      ap (λ (k : ℕ). k * (l .rows * l .columns)) (c .before .before .place-of .ensures .0)
+      ap (λ (k : ℕ). k * (l .rows * l .columns)) (placed (c .before) .place-of .ensures .0)
 
   -- the channel is within the output
   part : let a = start (c .before) .args in from + a .layer .rows * a .layer .columns ≤ length (now (a .output))
@@ -49,16 +60,33 @@ module _ (c : tie.After-held-in2) where
 place-of-requires : tie.Need-place-of-requires
 place-of-requires c κs = search needs
 
+tile-side-requires : tie.Need-tile-side-requires
+tile-side-requires c κs = search needs
+
+-- what `held_in` asks of the side and of the part
+side-takes : (c : tie.After-tile-side) (count part : ℕ) → let l = c .before .before .before .args .layer in let side = c .tile-side .result in
+    part < ceilingDiv (span l count) (tileSide l) → (gridStep l ≤ side) × (side ≤ 256) × (part < ceilingDiv (span l count) side)
+side-takes c count part below =
+    let p = c .before .before .before .pre .0 .0 in
+    rw (c .tile-side .ensures) (planned-tiled _ p .wide, omega (arith, tile-side-high _ (p .shape)), below)
+
 held-in-requires : tie.Need-held-in-requires
 held-in-requires c κs =
-    let s = c .before .before in
+    let s = c .before .before .before in
     let p = s .pre .0 .0 in
-    (p, rows-wanted _ p, omega (arith, c .place-of .ensures .1, tile-row-lt _ p (s .args .tile)))
+    let below = tile-row-lt _ p (s .args .tile) in
+    let (wide, narrow, inside) =
+    side-takes c (s .args .layer .rows) (c .before .place-of .result .row) (omega (arith, c .before .place-of .ensures .1)) in
+    (p, rows-wanted _ p, wide, narrow, inside)
 
 held-in-requires-2 : tie.Need-held-in-requires-2
 held-in-requires-2 c κs =
-    let p = start c .pre .0 .0 in
-    (p, columns-wanted _ p, omega (arith, c .before .place-of .ensures .2, tile-column-lt _ p (start c .args .tile)))
+    let s = start c in
+    let p = s .pre .0 .0 in
+    let below = tile-column-lt _ p (s .args .tile) in
+    let (wide, narrow, inside) =
+    side-takes (c .before) (s .args .layer .columns) (placed c .place-of .result .column) (omega (arith, placed c .place-of .ensures .2)) in
+    (p, columns-wanted _ p, wide, narrow, inside)
 
 mul-from : tie.Need-mul-from
 mul-from c = omega (arith, part (c .before))
@@ -93,7 +121,7 @@ store-rows-requires c κs =
     let across = columns-held h in
     let out = now (s .args .output) in
     let size = length-take-le (length out - from h) (drop (from h) out) (omega (arith, length-drop (from h) out)) in (
-      (p, with-words l (tileRow l t) (l .rows) _ held p, with-words l (tileColumn l t) (l .columns) _ across p),
+      (p, with-words l p (tileRow l t) (l .rows) _ held, with-words l p (tileColumn l t) (l .columns) _ across),
       (
         (omega (arith, size, part h, mul-le-mul-right (l .columns) (held .short)), across .short),
         (s .pre .1 .0, rows-fit l p t _ _ held across (from h) (from-is h) (now (s .args .words)) (part h) (s .pre .1 .1)),
@@ -115,6 +143,7 @@ store-tile-spec =
     tie.close
     (tie.spec
     place-of-requires
+    tile-side-requires
     held-in-requires
     held-in-requires-2
     mul-from

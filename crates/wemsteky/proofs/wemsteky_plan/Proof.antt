@@ -1,17 +1,12 @@
 -- `wemsteky_plan` hands on the planner's answer.
-use mathlib.Core.Path.{_≡_, ap, _∙_}
+use mathlib.Core.Path.{ap, _∙_}
 use borrow.Author.Needs.{needs}
-use denote.Ref.{now}
 use Rattle.layer.specs.declared.shape.Plan.{Plan}
-use Rattle.layer.specs.Numbers.{layerOf}
 use Rattle.checks.specs.Engine.{tileEngine}
 use Rattle.checks.specs.Checks.{planOf}
 use Rattle.wemsteky.specs.Figures.{planFigures}
 use Rattle.wemsteky.proofs.wemsteky_plan.Statement.{statement}
 use Rattle.wemsteky.proofs.wemsteky_plan.Tie as tie
-
-planned : (c : tie.After-plan) → c .plan .result ≡ planOf tileEngine (layerOf (now (c .before .before .args .layer)))
-planned c = c .plan .ensures ∙ ap (planOf tileEngine) (c .before .layer-of .ensures)
 
 layer-of-requires : tie.Need-layer-of-requires
 layer-of-requires c κs = search needs
@@ -19,9 +14,16 @@ layer-of-requires c κs = search needs
 plan-requires : tie.Need-plan-requires
 plan-requires c κs = search needs
 
+show-plan-requires : tie.Need-show-plan-requires
+show-plan-requires c κs = search needs
+
 returns : tie.Need-returns
 returns c =
-    let same = planned (c .before) in (ap (λ (p : Plan). p .code) same, ap planFigures same)
+    let layer : tie.After-layer-of = search in
+    let plan : tie.After-plan = search in
+    let shown : tie.After-show-plan = search in
+    let same = plan .plan .ensures ∙ ap (planOf tileEngine) (layer .layer-of .ensures) in
+    (shown .show-plan .ensures .0 ∙ ap (λ (p : Plan). p .code) same, shown .show-plan .ensures .1 ∙ ap planFigures same)
 
 pub wemsteky-plan-spec : {M : Type 1} → statement M
-wemsteky-plan-spec = tie.close (tie.spec layer-of-requires plan-requires returns)
+wemsteky-plan-spec = tie.close (tie.spec layer-of-requires plan-requires show-plan-requires returns)

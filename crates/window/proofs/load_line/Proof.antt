@@ -15,9 +15,6 @@ use Rattle.window.proofs.Loads.{loaded-clear, loaded-as}
 use Rattle.window.proofs.load_line.Statement.{statement}
 use Rattle.window.proofs.load_line.Tie as tie
 
-transform-length-requires : tie.Need-transform-length-requires
-transform-length-requires c κs = search needs
-
 has-values-requires : tie.Need-has-values-requires
 has-values-requires c κs = search needs
 
@@ -30,7 +27,7 @@ module _ (c : tie.After-edge-of) where
   tested = c .before .before
 
   abbrev start : tie.Start
-  start = tested .before .before .before
+  start = tested .before .before
 
   has-row : let a = start .args in T (spread (spacing (a .layer)) (edge (a .layer)) (a .layer .height) (a .line))
   has-row = subst T (sym (sym (tested .has-values .ensures) ∙ c .before .if1 .taken)) tt
@@ -94,11 +91,10 @@ load-row-requires c κs =
     let here = found (c .before .before) in
     let s = start here in
     let r = s .pre .0 .0 in
-    let n = tested here .before .transform-length .ensures in
     let m = c .modulus-of .ensures in
     let fits = s .pre .0 .1 in (
-      (omega (arith, n, s .pre .0 .2), omega (arith, m, modulus-low _ r), omega (arith, m, modulus-high _ r)),
-      (rw n (fits .inside), λ i l. omega (arith, map-place _ r _ _ _ (s .pre .1 .1) (row-of here .1) (fits .in-map i l), s .pre .1 .0)),
+      (s .pre .0 .2, omega (arith, m, modulus-low _ r), omega (arith, m, modulus-high _ r)),
+      (fits .inside, λ i l. omega (arith, map-place _ r _ _ _ (s .pre .1 .1) (row-of here .1) (fits .in-map i l), s .pre .1 .0)),
     )
 
 add-clear : tie.Need-add-clear
@@ -114,7 +110,7 @@ returns : tie.Need-returns
 returns c =
     let ready = c .before .before .before in
     let here = found (ready .before .before) in
-    let loaded = rw (tested here .before .transform-length .ensures, ready .modulus-of .ensures) at (c .before .before .load-row .ensures) in
+    let loaded = rw (ready .modulus-of .ensures) at (c .before .before .load-row .ensures) in
     loaded-as {u = value here (row here)} loaded (λ p l h. (h, line-value here p)) (λ p h. h)
 
 same-length-2 : tie.Need-same-length-2
@@ -124,14 +120,13 @@ returns-2 : tie.Need-returns-2
 returns-2 c =
     let none = c .before .before .before .before in
     let e = sym (none .before .has-values .ensures) ∙ none .if1 .left in
-    let cleared = loaded-clear (rw (none .before .before .transform-length .ensures) at (c .before .before .clear .ensures)) in
+    let cleared = loaded-clear (c .before .before .clear .ensures) in
     loaded-as cleared (λ p l h. ((h .0, omega arith), sym (when-no (spread _ _ _ _) _ (λ t. subst T e t)))) (λ p h. (h .0, omega arith))
 
 pub load-line-spec : {M : Type 1} → statement M
 load-line-spec =
     tie.close
     (tie.spec
-    transform-length-requires
     has-values-requires
     edge-of-requires
     sub-map-row

@@ -8,7 +8,7 @@ use lib.ListN.{length}
 use Rattle.algebra.specs.PlacesLaws.{part-ends}
 use Rattle.algebra.specs.Places.{Run}
 use Rattle.fermat.specs.Field.{modulus, transformLength}
-use Rattle.layer.specs.TileSizeLaws.{length-high}
+use Rattle.layer.specs.TileSizeLaws.{length-low, length-high}
 use Rattle.window.specs.Loaded.{Loaded}
 use Rattle.window.proofs.WindowRows.{windowOf, next-row, windowed}
 use Rattle.window.proofs.Loads.{loaded-none}
@@ -27,7 +27,11 @@ transform-length-requires : tie.Need-transform-length-requires Inv-loop μ-loop
 transform-length-requires c κs = search needs
 
 shown-of-requires : tie.Need-shown-of-requires Inv-loop μ-loop
-shown-of-requires c κs = search needs
+shown-of-requires c κs =
+    let s = c .before .before in
+    let r = s .pre .0 .0 in
+    let n = c .transform-length .ensures in
+    (r, s .pre .0 .3, omega (arith, n, length-low _ r), omega (arith, n, length-high _ r))
 
 loop-holds : tie.Need-loop-holds Inv-loop μ-loop
 loop-holds c = (omega arith, loaded-none (λ p h. omega (arith, h)))
@@ -70,7 +74,7 @@ loop-again c =
     let a = start loop .args in
     let n = sized loop .transform-length .ensures in (
       omega arith,
-      next-row _ (a .map .now) (a .channel) _ _ _ (loop .loop .u) (loop .before .shown-of .ensures) (loop .loop .inv .1)
+      next-row _ (a .map .now) (a .channel) _ _ _ (loop .loop .u) (rw n at (loop .before .shown-of .ensures)) (loop .loop .inv .1)
           (rw n at (c .before .before .load-line .ensures)),
     )
 

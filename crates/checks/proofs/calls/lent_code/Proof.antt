@@ -1,7 +1,6 @@
 -- `lent_code` goes through `lentRules`, rule by rule.
 use borrow.Author.Needs.{needs}
 use Rattle.base.specs.RulesLaws.{in-order, rule-steps}
-use Rattle.layer.specs.Shape.{scratchWords}
 use Rattle.checks.specs.Checks.{lentRules}
 use Rattle.checks.proofs.calls.lent_code.Statement.{statement}
 use Rattle.checks.proofs.calls.lent_code.Tie as tie
@@ -24,9 +23,6 @@ output-count-requires c κs = search needs
 next-requires-3 : tie.Need-next-requires-3
 next-requires-3 c κs = search needs
 
-scratch-words-requires : tie.Need-scratch-words-requires
-scratch-words-requires c κs = search needs
-
 next-requires-4 : tie.Need-next-requires-4
 next-requires-4 c κs = search needs
 
@@ -40,7 +36,7 @@ returns : tie.Need-returns
 returns c =
     let start : tie.Start = search in
     let a = start .args in
-    in-order (lentRules (scratchWords (a .layer)) (a .layer) (a .map .now) (a .kernel .now) (a .output) (a .scratch)) tt (search rule-steps depth 20)
+    in-order (lentRules (a .words) (a .layer) (a .map .now) (a .kernel .now) (a .output) (a .scratch)) tt (search rule-steps depth 20)
 
 pub lent-code-spec : {M : Type 1} → statement M
 lent-code-spec =
@@ -52,7 +48,6 @@ lent-code-spec =
     next-requires-2
     output-count-requires
     next-requires-3
-    scratch-words-requires
     next-requires-4
     is-inside-requires
     next-requires-5

@@ -36,7 +36,7 @@ next-requires-4 : tie.Need-next-requires-4
 next-requires-4 c κs = search needs
 
 returns : tie.Need-returns
-returns c = let start : tie.Start = search in in-order (mapRules 5 (start .args .layer)) tt (search rule-steps depth 20)
+returns c = let start : tie.Start = search in in-order (mapRules (start .args .last-field) (start .args .layer)) tt (search rule-steps depth 20)
 
 pub map-code-spec : {M : Type 1} → statement M
 map-code-spec =

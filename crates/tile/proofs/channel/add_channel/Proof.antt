@@ -4,17 +4,18 @@ use mathlib.Core.List.{List}
 use Prim.Native.Nat.{ℕ, _+_, _*_, _-_, _≤_, _<_}
 use native.Mathlib.Nat.{mul-le-mul}
 use native.Mathlib.Omega.{arith}
-use lib.ListN.{length, drop, length-drop}
-use lib.Seq.{length-take-le}
+use lib.ListN.{length}
 use borrow.Author.Needs.{needs}
 use borrow.Rule.Slice.PartMut.{midOf, putMid, same-len-mid}
 use denote.Ref.{now}
+use Rattle.passes.specs.PartLaws.{part-length}
+use Rattle.spectrum.specs.LendingLaws.{Lending}
 use Rattle.layer.specs.Direct.{planeOf}
 use Rattle.layer.specs.TileSizeLaws.{length-high}
 use Rattle.load.specs.LoadLaws.{plane-below}
 use Rattle.tile.specs.Channel.{area}
 use Rattle.tile.proofs.KernelReady.{kernel-lent}
-use Rattle.tile.proofs.Adding.{Lending, Transformed, transformed, accumulate-asks, kernel-added, added-next}
+use Rattle.tile.proofs.Adding.{Transformed, transformed, accumulate-asks, kernel-added, added-next}
 use Rattle.tile.proofs.channel.add_channel.Statement.{statement}
 use Rattle.tile.proofs.channel.add_channel.Tie as tie
 
@@ -94,10 +95,6 @@ part-ready-kernel-start c = search needs
 
 part-ready-kernel-end : tie.Need-part-ready-kernel-end
 part-ready-kernel-end c = omega (arith, room (planes c .before))
-
--- the kernel's part is lent
-part-length : (a k : ℕ) (xs : List ℕ) → a + k ≤ length xs → length (midOf a k xs) ≡ k
-part-length a k xs le = length-take-le k (drop a xs) (omega (arith, length-drop a xs))
 
 kernel-part : (c : tie.After-transform-length)
     → length (midOf (n c * n c) (2 * (n c * n c) - n c * n c) (now (start c .args .scratch))) ≡ area (start c .args .layer)

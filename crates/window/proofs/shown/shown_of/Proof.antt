@@ -4,8 +4,6 @@ use Prim.Native.Nat.{ℕ, _+_, _*_, _-_, _≤_, _<_}
 use native.Mathlib.Omega.{arith}
 use borrow.Author.Needs.{needs}
 use Rattle.base.specs.Number.{ceilingDiv}
-use Rattle.fermat.specs.Field.{transformLength}
-use Rattle.layer.specs.TileSizeLaws.{length-low, length-high}
 use Rattle.window.specs.Shows.{Shows}
 use Rattle.window.specs.Window.{spacing, edge}
 use Rattle.window.proofs.Figures.{spacing-low, spacing-high, edge-high, first-covers, begin-high, first-high, shows}
@@ -65,16 +63,13 @@ add-begin c = omega (arith, bounds c)
 sub-begin : tie.Need-sub-begin
 sub-begin c = bounds c .1
 
-transform-length-requires : tie.Need-transform-length-requires
-transform-length-requires c κs = search needs
-
 sub-ceiling-div : tie.Need-sub-ceiling-div
-sub-ceiling-div c = omega (arith, bounds (c .before), length-low _ (start (c .before) .pre .0))
+sub-ceiling-div c = omega (arith, bounds c, start c .pre .2)
 
 ceiling-div-requires-2 : tie.Need-ceiling-div-requires-2
 ceiling-div-requires-2 c κs =
-    let low = small (spaced (c .before)) in
-    (omega arith, omega (arith, length-high _ (start (c .before) .pre .0)))
+    let low = small (spaced c) in
+    (omega arith, omega (arith, start c .pre .3))
 
 above-requires-2 : tie.Need-above-requires-2
 above-requires-2 c κs = search needs
@@ -82,30 +77,29 @@ above-requires-2 c κs = search needs
 -- whichever count the code takes
 module _ (c : tie.After-above2) where
   abbrev found : tie.After-ceiling-div
-  found = c .before .before .before
+  found = c .before .before
 
   room-is : let a = start found .args in let l = a .layer in let first = found .ceiling-div .result in
-      c .before .ceiling-div2 .result ≡ ceilingDiv (transformLength (l .field) - (edge l + first * spacing l - a .column)) (spacing l)
+      c .before .ceiling-div2 .result ≡ ceilingDiv (a .n - (edge l + first * spacing l - a .column)) (spacing l)
   room-is =
       let a = start found .args in
       let first = found .ceiling-div .result in
       let apart-is = spaced found .spacing-of .ensures in
       c .before .ceiling-div2 .ensures
       ∙ ap₂ ceilingDiv
-      (ap₂ _-_ (c .before .before .transform-length .ensures)
-      (ap₂ (λ (before apart : ℕ). before + first * apart - a .column) (found .before .before .edge-of .ensures) apart-is))
+      (ap₂ (λ (before apart : ℕ). a .n - (before + first * apart - a .column)) (found .before .before .edge-of .ensures) apart-is)
       apart-is
 
   made : (count : ℕ) → let a = start found .args in let first = found .ceiling-div .result in
       let room = c .before .ceiling-div2 .result in let left = c .above2 .result in
       let apart = spaced found .spacing-of .result in let before = found .before .before .edge-of .result in
       count ≤ room → count ≤ left → ((i : ℕ) → i < room → i < left → i < count)
-      → Shows (a .layer) (a .column) (record { spacing = apart; first = first; begin = before + first * apart - a .column; count = count })
+      → Shows (a .layer) (a .n) (a .column) (record { spacing = apart; first = first; begin = before + first * apart - a .column; count = count })
   made count in-room in-left most =
       let s = start found in
       rw (← spaced found .spacing-of .ensures, ← found .before .before .edge-of .ensures) at
-      (shows (s .args .layer) (s .pre .0) (s .args .column) _ _ (first-is found) refl (c .before .ceiling-div2 .result) count (s .pre .1) room-is
-      in-room (omega arith) (λ i h k. most i h (omega arith)))
+      (shows (s .args .layer) (s .pre .0) (s .args .column) _ _ (first-is found) refl (s .args .n) (c .before .ceiling-div2 .result) count
+      (s .pre .1) (s .pre .2) room-is in-room (omega arith) (λ i h k. most i h (omega arith)))
 
 returns : tie.Need-returns
 returns c = made (c .before) (c .before .before .ceiling-div2 .result) (omega arith) (omega (arith, c .if1 .taken)) (λ i h k. h)
@@ -124,7 +118,6 @@ shown-of-spec =
     mul-begin
     add-begin
     sub-begin
-    transform-length-requires
     sub-ceiling-div
     ceiling-div-requires-2
     above-requires-2

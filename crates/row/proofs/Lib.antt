@@ -1,0 +1,2 @@
+mod TwistedRows
+mod Rows

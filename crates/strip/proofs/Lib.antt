@@ -1,0 +1,5 @@
+mod LoadedRows
+mod RowSums
+mod Adding
+mod Finishing
+mod HeldPlaces

@@ -1,0 +1,4 @@
+-- definitions
+pub mod Origin
+pub mod Rows
+pub mod Stored
