@@ -40,12 +40,30 @@ static void *run(void *with)
     return NULL;
 }
 
+static void *strip_run(void *with)
+{
+    const size_t *layer = with;
+    size_t figures[7];
+    answer = wemsteky_strip_run(layer, map, layer[4] * layer[5], kernel, layer[3] * layer[6] * layer[6], output,
+                                layer[3] * layer[12] * layer[13], scratch, 768, figures);
+    return NULL;
+}
+
 static void *job(void *with)
 {
     const size_t *layer = with;
     size_t figures[7];
     answer = wemsteky_job(layer, 0, 1, map, layer[4] * layer[5], kernel, layer[3] * layer[6] * layer[6], output,
                           layer[3] * layer[12] * layer[13], scratch, 12288, figures);
+    return NULL;
+}
+
+static void *strip_job(void *with)
+{
+    const size_t *layer = with;
+    size_t figures[7];
+    answer = wemsteky_strip_job(layer, 0, 1, map, layer[4] * layer[5], kernel, layer[3] * layer[6] * layer[6], output,
+                                layer[3] * layer[12] * layer[13], scratch, 768, figures);
     return NULL;
 }
 
@@ -120,6 +138,9 @@ int main(void)
     show("wemsteky_run, TCONV, field 4", run, tconv[0]);
     show("wemsteky_run, TCONV, field 5", run, tconv[1]);
     show("wemsteky_job, CONV, field 5", job, conv[1]);
+    show("wemsteky_strip_run, CONV", strip_run, conv[0]);
+    show("wemsteky_strip_run, TCONV", strip_run, tconv[0]);
+    show("wemsteky_strip_job, CONV", strip_job, conv[0]);
     show("the transform pair, field 4", pair, &four);
     show("the transform pair, field 5", pair, &five);
     show("wemsteky_levels", levels, NULL);

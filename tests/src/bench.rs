@@ -3,6 +3,7 @@
 
 use crate::call::Call;
 use crate::direct::direct_sums;
+use crate::engine::Engine;
 use crate::layer::Layer;
 use crate::rules;
 
@@ -24,7 +25,7 @@ pub fn printed(input: &[u8]) -> String {
     let Some(layer) = header(input) else {
         return UNREADABLE.to_string();
     };
-    let number = rules::plan_number(&layer);
+    let number = rules::plan_number(Engine::Tiles, &layer);
     if number != 0 {
         return refused(number);
     }
@@ -104,8 +105,9 @@ fn lent(layer: Layer, input: &[u8]) -> Option<Call> {
         return None;
     }
     let kernel = map.split_off(layer.map_length() as usize);
-    let (output_length, scratch_length) = (layer.output_length() as usize, layer.scratch_words());
-    Some(Call { layer, next: 0, budget: layer.tile_total(), map, kernel, output_length, scratch_length })
+    let engine = Engine::Tiles;
+    let (output_length, scratch_length) = (layer.output_length() as usize, engine.scratch_words(&layer));
+    Some(Call { engine, layer, next: 0, budget: engine.total(&layer), map, kernel, output_length, scratch_length })
 }
 
 /// The run's refusal; else its tiles, then its output, a line for each row.
@@ -114,7 +116,7 @@ fn ran(call: &Call) -> String {
     if number != 0 {
         return refused(number);
     }
-    let mut text = format!("tiles {}\n", call.layer.tile_total());
+    let mut text = format!("tiles {}\n", call.total());
     for row in direct_sums(&call.layer, &call.map, &call.kernel).chunks(call.layer.columns) {
         let numbers: Vec<String> = row.iter().map(i64::to_string).collect();
         text += &numbers.join(" ");

@@ -3,6 +3,7 @@
 use crate::bench::{small, FIGURES, LONGEST};
 use crate::call::Call;
 use crate::draw;
+use crate::engine::Engine;
 use crate::random::Random;
 
 /// A run of a kind that the program accepts.
@@ -10,7 +11,7 @@ pub fn call(random: &mut Random, kind: usize) -> Call {
     loop {
         let layer = draw::any_layer(random, kind, 4, 5, 40);
         if small(&layer) && (layer.below, layer.beside) == (0, 0) {
-            return draw::call(random, layer);
+            return draw::call(random, Engine::Tiles, layer);
         }
     }
 }

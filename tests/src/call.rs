@@ -1,10 +1,13 @@
 //! What a run or a job call is given, and the buffers that it writes, with guard values around them.
 
+use crate::engine::Engine;
 use crate::layer::Layer;
 
-/// The job's layer and index, the budget, what is lent to read, and how much of each buffer is lent to write.
+/// The engine, the job's layer and index, the budget, what is lent to read, and how much of each buffer is lent to
+/// write.
 #[derive(Clone, Debug, Default, PartialEq, Eq)]
 pub struct Call {
+    pub engine: Engine,
     pub layer: Layer,
     pub next: usize,
     pub budget: usize,
@@ -12,6 +15,18 @@ pub struct Call {
     pub kernel: Vec<i16>,
     pub output_length: usize,
     pub scratch_length: usize,
+}
+
+impl Call {
+    /// The total of parts.
+    pub fn total(&self) -> usize {
+        self.engine.total(&self.layer)
+    }
+
+    /// The words of scratch that are asked for.
+    pub fn scratch_words(&self) -> usize {
+        self.engine.scratch_words(&self.layer)
+    }
 }
 
 /// Guard values on each side of a buffer.

@@ -4,36 +4,48 @@
 use crate::call::{Buffer, Buffers, Call};
 use crate::direct::direct_sums;
 use crate::draw;
-use crate::engine::{self, Answer};
+use crate::engine::{Answer, Engine};
 use crate::layer::Layer;
+use crate::parts::ENGINES;
 use crate::random::Random;
 use crate::rules::{self, Offender};
 use std::fmt::Debug;
 use std::ops::Range;
 
 /// Plans, and holds the number and the figures to the rules and formulas. Returns the number.
-pub fn plan(layer: &Layer) -> usize {
-    let number = rules::plan_number(layer);
+pub fn plan(engine: Engine, layer: &Layer) -> usize {
+    let number = rules::plan_number(engine, layer);
     let figures = match number {
-        0 => [layer.full_rows() as usize, layer.full_columns() as usize, layer.tile_total(), layer.scratch_words()],
+        0 => {
+            let (rows, columns) = (layer.full_rows() as usize, layer.full_columns() as usize);
+            [rows, columns, engine.total(layer), engine.scratch_words(layer)]
+        }
         _ => [0; 4],
     };
-    assert_eq!(engine::plan(&layer.numbers()), (number, figures), "plan of {layer:?}");
+    assert_eq!(engine.plan(&layer.numbers()), (number, figures), "plan by {engine:?} of {layer:?}");
     number
 }
 
-/// Makes a job call. Tiles that it finishes are held to the sums where they are given; every other word, always.
+/// Plans a layer by both engines, which must answer alike in field 4. Returns the number.
+pub fn plan_by_both(layer: &Layer) -> usize {
+    assert_eq!(layer.field, 4, "{layer:?}");
+    let [tiles, strips] = ENGINES.map(|engine| plan(engine, layer));
+    assert_eq!(tiles, strips, "{layer:?}");
+    tiles
+}
+
+/// Makes a job call. Parts that it finishes are held to the sums where they are given; every other word, always.
 pub fn job(call: &Call, buffers: &mut Buffers, sums: Option<&[i64]>) -> Answer {
     held(call, buffers, sums, |output, scratch| {
-        engine::job(&call.layer.numbers(), (call.next, call.budget), (&call.map, &call.kernel), output, scratch)
+        call.engine.job(&call.layer.numbers(), (call.next, call.budget), (&call.map, &call.kernel), output, scratch)
     })
 }
 
-/// Makes a run: the job from tile 0 with a budget that reaches the total. The call's own index and budget are not used.
+/// Makes a run: the job from part 0 with a budget that reaches the total. The call's own index and budget are not used.
 pub fn run(call: &Call, buffers: &mut Buffers, sums: Option<&[i64]>) -> Answer {
     let whole = Call { next: 0, budget: usize::MAX, ..call.clone() };
     held(&whole, buffers, sums, |output, scratch| {
-        engine::run(&whole.layer.numbers(), &whole.map, &whole.kernel, output, scratch)
+        whole.engine.run(&whole.layer.numbers(), &whole.map, &whole.kernel, output, scratch)
     })
 }
 
@@ -41,7 +53,7 @@ pub fn run(call: &Call, buffers: &mut Buffers, sums: Option<&[i64]>) -> Answer {
 pub fn whole_run(random: &mut Random, call: &Call) -> Vec<i64> {
     let mut buffers = draw::buffers(random, call);
     let sums = direct_sums(&call.layer, &call.map, &call.kernel);
-    assert_eq!(plan(&call.layer), 0, "plan of {:?}", call.layer);
+    assert_eq!(plan(call.engine, &call.layer), 0, "plan of {:?}", call.layer);
     let answer = run(call, &mut buffers, Some(&sums));
     assert_eq!((answer.number, answer.done), (0, 1), "run of {:?}", call.layer);
     assert!(buffers.output.words().iter().map(|&word| i64::from(word)).eq(sums.iter().copied()), "{:?}", call.layer);
@@ -58,8 +70,8 @@ fn held(
     let answer = made(buffers.output.lend(call.output_length), buffers.scratch.lend(call.scratch_length));
     assert_eq!(answer, expected_answer(call), "answer to {}", name(call));
     if answer.number == 0 {
-        expected.scratch.lend(call.layer.scratch_words()).fill(0);
-        finish(&call.layer, call.next..answer.next, sums, &buffers.output, &mut expected.output);
+        expected.scratch.lend(call.scratch_words()).fill(0);
+        finish(call, call.next..answer.next, sums, &buffers.output, &mut expected.output);
     }
     same("output", &buffers.output, &expected.output, call);
     same("scratch", &buffers.scratch, &expected.scratch, call);
@@ -78,16 +90,16 @@ pub fn expected_answer(call: &Call) -> Answer {
         };
         return Answer { number, count: 0, next: call.next, done: 0, offender };
     }
-    let total = call.layer.tile_total();
+    let total = call.total();
     let count = call.budget.min(total - call.next);
     let next = call.next + count;
     Answer { number, count, next, done: usize::from(next == total), offender: Offender::default() }
 }
 
-/// Writes what the outputs of some tiles must be: their sums, or what was found where no sums are given.
-fn finish(layer: &Layer, tiles: Range<usize>, sums: Option<&[i64]>, found: &Buffer<i32>, expected: &mut Buffer<i32>) {
-    let words = expected.lend(layer.output_length() as usize);
-    for place in layer.places(tiles) {
+/// Writes what the outputs of some parts must be: their sums, or what was found where no sums are given.
+fn finish(call: &Call, parts: Range<usize>, sums: Option<&[i64]>, found: &Buffer<i32>, expected: &mut Buffer<i32>) {
+    let words = expected.lend(call.output_length);
+    for place in call.engine.places(&call.layer, parts) {
         words[place] = match sums {
             Some(sums) => i32::try_from(sums[place]).expect("an accepted sum fits 32 bits"),
             None => found.words()[place],
@@ -103,5 +115,5 @@ fn same<T: Copy + PartialEq + Debug>(what: &str, found: &Buffer<T>, expected: &B
 
 /// A call without its map and kernel, for a message.
 fn name(call: &Call) -> String {
-    format!("index {}, budget {}, {:?}", call.next, call.budget, call.layer)
+    format!("index {}, budget {}, {:?}, {:?}", call.next, call.budget, call.engine, call.layer)
 }

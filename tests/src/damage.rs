@@ -2,6 +2,7 @@
 
 use crate::call::Call;
 use crate::draw::{any_layer, blank_channel, top_up};
+use crate::engine::Engine;
 use crate::groups::{groups, set_group};
 use crate::layer::{Layer, CONV};
 use crate::random::Random;
@@ -22,17 +23,19 @@ impl Damage {
 }
 
 /// The rule, the place among the sixteen numbers, and the range.
-const RANGES: [(usize, usize, usize, usize); 9] = [
-    (1, 0, 0, 1),
-    (2, 1, 4, 5),
-    (3, 2, 1, 64),
-    (3, 3, 1, 64),
-    (4, 4, 1, 512),
-    (4, 5, 1, 512),
-    (5, 6, 1, 11),
-    (6, 7, 1, 4),
-    (14, 9, 1, 32_767),
-];
+fn limits(engine: Engine) -> [(usize, usize, usize, usize); 9] {
+    [
+        (1, 0, 0, 1),
+        (2, 1, 4, engine.last_field()),
+        (3, 2, 1, 64),
+        (3, 3, 1, 64),
+        (4, 4, 1, 512),
+        (4, 5, 1, 512),
+        (5, 6, 1, 11),
+        (6, 7, 1, 4),
+        (14, 9, 1, 32_767),
+    ]
+}
 
 /// Values outside a range: next to both ends, far off, and those that are inside it when cut to 16 or 32 bits.
 fn outside(least: usize, most: usize) -> Vec<usize> {
@@ -41,9 +44,9 @@ fn outside(least: usize, most: usize) -> Vec<usize> {
     values
 }
 
-fn ranges() -> Vec<Damage> {
+fn ranges(engine: Engine) -> Vec<Damage> {
     let mut damages = Vec::new();
-    for (rule, place, least, most) in RANGES {
+    for (rule, place, least, most) in limits(engine) {
         for value in outside(least, most) {
             let apply = move |call: &mut Call| call.layer = call.layer.with(place, value);
             damages.push(Damage { rule, name: format!("number {place} is {value}"), apply: Box::new(apply) });
@@ -127,7 +130,7 @@ const LENT: [Entry; 24] = [
     (12, "output one short", |call| call.output_length -= 1),
     (12, "output one long", |call| call.output_length += 1),
     (12, "no output", |call| call.output_length = 0),
-    (13, "scratch one short", |call| call.scratch_length = call.layer.scratch_words() - 1),
+    (13, "scratch one short", |call| call.scratch_length = call.scratch_words() - 1),
     (13, "no scratch", |call| call.scratch_length = 0),
     (15, "first value one above the peak", |call| set_above(call, 0)),
     (25, "last value one below the peak's negative", |call| {
@@ -145,7 +148,7 @@ const LENT: [Entry; 24] = [
     (16, "load of the last channel above the limit", |call| {
         overload(call, call.layer.outputs - 1, &last_of_the_greatest(&call.layer))
     }),
-    (17, "index one above the total", |call| call.next = call.layer.tile_total() + 1),
+    (17, "index one above the total", |call| call.next = call.total() + 1),
     (17, "index is 2 to the power 32", |call| call.next = 1 << 32),
     (17, "index is 2 to the power 63", |call| call.next = 1 << 63),
     (17, "index is the greatest number", |call| call.next = usize::MAX),
@@ -193,9 +196,9 @@ pub fn breakable_layer(random: &mut Random, kind: usize, field: usize, most_chan
     }
 }
 
-/// Every damage, the rules in order within each group.
-pub fn damages() -> Vec<Damage> {
-    let mut damages = ranges();
+/// Every damage of a call of an engine, the rules in order within each group.
+pub fn damages(engine: Engine) -> Vec<Damage> {
+    let mut damages = ranges(engine);
     for (rule, name, apply) in SIZES.into_iter().chain(LENT) {
         damages.push(Damage { rule, name: name.to_string(), apply: Box::new(apply) });
     }

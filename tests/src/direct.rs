@@ -55,6 +55,7 @@ pub fn direct_sums<V: Copy + Into<i64>>(layer: &Layer, map: &[V], kernel: &[i16]
 mod tests {
     use super::*;
     use crate::draw;
+    use crate::engine::Engine;
     use crate::random::Random;
 
     /// An entry of a stack of planes, or 0 outside its plane.
@@ -96,7 +97,7 @@ mod tests {
         for trial in 0..200 {
             let mut random = Random::new("direct sums", trial);
             let layer = draw::any_layer(&mut random, trial % 2, 4, 3, 12);
-            let call = draw::call(&mut random, layer);
+            let call = draw::call(&mut random, Engine::Tiles, layer);
             let mut sums = direct_sums(&layer, &call.map, &call.kernel).into_iter();
             for channel in 0..layer.outputs {
                 for (row, column) in places((layer.rows, layer.columns)) {

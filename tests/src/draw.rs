@@ -1,6 +1,7 @@
 //! Layers, maps, kernels and buffers, drawn so that every rule accepts them.
 
 use crate::call::{Buffer, Buffers, Call};
+use crate::engine::Engine;
 use crate::groups::{groups, set_group};
 use crate::layer::{Layer, CONV};
 use crate::random::Random;
@@ -166,16 +167,17 @@ pub fn set_channel(layer: &Layer, kernel: &mut [i16], channel: usize, weights: &
     }
 }
 
-/// A whole run of a layer, with a drawn map and kernel and a little more scratch than it asks for.
-pub fn call(random: &mut Random, layer: Layer) -> Call {
+/// A whole run of a layer by an engine, with a drawn map and kernel and a little more scratch than it asks for.
+pub fn call(random: &mut Random, engine: Engine, layer: Layer) -> Call {
     Call {
+        engine,
         layer,
         next: 0,
-        budget: layer.tile_total(),
+        budget: engine.total(&layer),
         map: map(random, &layer),
         kernel: kernel(random, &layer),
         output_length: layer.output_length() as usize,
-        scratch_length: layer.scratch_words() + random.below(20),
+        scratch_length: engine.scratch_words(&layer) + random.below(20),
     }
 }
 

@@ -1,36 +1,47 @@
-//! The nine functions of include/wemsteky.h, behind slices.
+//! The twelve functions of include/wemsteky.h, behind slices.
 
 use crate::rules::Offender;
 
 mod c {
+    /// The plan, the run and the job of an engine.
+    macro_rules! engine {
+        ($plan:ident, $run:ident, $job:ident) => {
+            extern "C" {
+                pub fn $plan(layer: *const usize, figures: *mut usize) -> usize;
+                pub fn $run(
+                    layer: *const usize,
+                    map: *const i16,
+                    map_len: usize,
+                    kernel: *const i16,
+                    kernel_len: usize,
+                    output: *mut i32,
+                    output_len: usize,
+                    scratch: *mut u64,
+                    scratch_len: usize,
+                    figures: *mut usize,
+                ) -> usize;
+                pub fn $job(
+                    layer: *const usize,
+                    next: usize,
+                    budget: usize,
+                    map: *const i16,
+                    map_len: usize,
+                    kernel: *const i16,
+                    kernel_len: usize,
+                    output: *mut i32,
+                    output_len: usize,
+                    scratch: *mut u64,
+                    scratch_len: usize,
+                    figures: *mut usize,
+                ) -> usize;
+            }
+        };
+    }
+
+    engine!(wemsteky_plan, wemsteky_run, wemsteky_job);
+    engine!(wemsteky_strip_plan, wemsteky_strip_run, wemsteky_strip_job);
+
     extern "C" {
-        pub fn wemsteky_plan(layer: *const usize, figures: *mut usize) -> usize;
-        pub fn wemsteky_run(
-            layer: *const usize,
-            map: *const i16,
-            map_len: usize,
-            kernel: *const i16,
-            kernel_len: usize,
-            output: *mut i32,
-            output_len: usize,
-            scratch: *mut u64,
-            scratch_len: usize,
-            figures: *mut usize,
-        ) -> usize;
-        pub fn wemsteky_job(
-            layer: *const usize,
-            next: usize,
-            budget: usize,
-            map: *const i16,
-            map_len: usize,
-            kernel: *const i16,
-            kernel_len: usize,
-            output: *mut i32,
-            output_len: usize,
-            scratch: *mut u64,
-            scratch_len: usize,
-            figures: *mut usize,
-        ) -> usize;
         pub fn wemsteky_transform(field: usize, words: *mut u64, words_len: usize) -> usize;
         pub fn wemsteky_inverse(field: usize, words: *mut u64, words_len: usize) -> usize;
         pub fn wemsteky_levels(
@@ -65,11 +76,11 @@ mod c {
 /// A call of a C function: plain arguments, then the slices that it reads, then those that it writes, each as its pointer
 /// and its length, then what comes last.
 macro_rules! called {
-    ($function:ident($($plain:expr),*), read($($read:expr),*), written($($written:expr),*) $(, $last:expr)?) => {
+    ($function:expr, ($($plain:expr),*), read($($read:expr),*), written($($written:expr),*) $(, $last:expr)?) => {
         // Safety: every pointer is of a slice of the length beside it, or of an array of the length that the header names,
         // and is not null; borrowed slices do not overlap.
         unsafe {
-            c::$function(
+            $function(
                 $($plain,)*
                 $($read.as_ptr(), $read.len(),)*
                 $($written.as_mut_ptr(), $written.len(),)*
@@ -92,13 +103,6 @@ pub struct Answer {
     pub offender: Offender,
 }
 
-/// The number and the four figures: E, F, the tile total and 3N².
-pub fn plan(layer: &[usize; 16]) -> (usize, [usize; 4]) {
-    let mut figures = [UNWRITTEN; 4];
-    let number = called!(wemsteky_plan(layer.as_ptr()), read(), written(), figures.as_mut_ptr());
-    (number, figures)
-}
-
 /// The answer of a call that returns a number and writes seven figures.
 fn answer(call: impl FnOnce(*mut usize) -> usize) -> Answer {
     let mut figures = [UNWRITTEN; 7];
@@ -107,48 +111,86 @@ fn answer(call: impl FnOnce(*mut usize) -> usize) -> Answer {
     Answer { number, count, next, done, offender: Offender { channel, row, column, side } }
 }
 
-pub fn run(layer: &[usize; 16], map: &[i16], kernel: &[i16], output: &mut [i32], scratch: &mut [u64]) -> Answer {
-    answer(|figures| called!(wemsteky_run(layer.as_ptr()), read(map, kernel), written(output, scratch), figures))
+/// What a layer is cut into: tiles, which are squares, or strips, which lie in one output row.
+#[derive(Clone, Copy, Debug, Default, PartialEq, Eq)]
+pub enum Engine {
+    #[default]
+    Tiles,
+    Strips,
 }
 
-pub fn job(
-    layer: &[usize; 16],
-    (next, budget): (usize, usize),
-    (map, kernel): (&[i16], &[i16]),
-    output: &mut [i32],
-    scratch: &mut [u64],
-) -> Answer {
-    answer(|figures| {
-        called!(wemsteky_job(layer.as_ptr(), next, budget), read(map, kernel), written(output, scratch), figures)
-    })
+impl Engine {
+    /// The number and the four figures: E, F, the total of parts and the words of scratch.
+    pub fn plan(self, layer: &[usize; 16]) -> (usize, [usize; 4]) {
+        let function = match self {
+            Engine::Tiles => c::wemsteky_plan,
+            Engine::Strips => c::wemsteky_strip_plan,
+        };
+        let mut figures = [UNWRITTEN; 4];
+        let number = called!(function, (layer.as_ptr()), read(), written(), figures.as_mut_ptr());
+        (number, figures)
+    }
+
+    pub fn run(
+        self,
+        layer: &[usize; 16],
+        map: &[i16],
+        kernel: &[i16],
+        output: &mut [i32],
+        scratch: &mut [u64],
+    ) -> Answer {
+        let function = match self {
+            Engine::Tiles => c::wemsteky_run,
+            Engine::Strips => c::wemsteky_strip_run,
+        };
+        answer(|figures| called!(function, (layer.as_ptr()), read(map, kernel), written(output, scratch), figures))
+    }
+
+    pub fn job(
+        self,
+        layer: &[usize; 16],
+        (next, budget): (usize, usize),
+        (map, kernel): (&[i16], &[i16]),
+        output: &mut [i32],
+        scratch: &mut [u64],
+    ) -> Answer {
+        let function = match self {
+            Engine::Tiles => c::wemsteky_job,
+            Engine::Strips => c::wemsteky_strip_job,
+        };
+        answer(|figures| {
+            called!(function, (layer.as_ptr(), next, budget), read(map, kernel), written(output, scratch), figures)
+        })
+    }
 }
 
 pub fn transform(field: usize, words: &mut [u64]) -> usize {
-    called!(wemsteky_transform(field), read(), written(words))
+    called!(c::wemsteky_transform, (field), read(), written(words))
 }
 
 pub fn inverse(field: usize, words: &mut [u64]) -> usize {
-    called!(wemsteky_inverse(field), read(), written(words))
+    called!(c::wemsteky_inverse, (field), read(), written(words))
 }
 
 pub fn levels(shift: usize, bound: usize, outputs: &[i32], levels: &mut [i16]) -> usize {
-    called!(wemsteky_levels(shift, bound), read(outputs), written(levels))
+    called!(c::wemsteky_levels, (shift, bound), read(outputs), written(levels))
 }
 
 pub fn noise(seed: u32, map: &mut [i16]) -> u32 {
-    called!(wemsteky_noise(seed), read(), written(map))
+    called!(c::wemsteky_noise, (seed), read(), written(map))
 }
 
 /// Each layer with its kernel.
 pub fn join(first: (&[usize; 16], &[i16]), second: (&[usize; 16], &[i16]), joined: &mut [i16]) -> usize {
     let (layer, kernel) = first;
     called!(
-        wemsteky_join(layer.as_ptr(), kernel.as_ptr(), kernel.len(), second.0.as_ptr()),
+        c::wemsteky_join,
+        (layer.as_ptr(), kernel.as_ptr(), kernel.len(), second.0.as_ptr()),
         read(second.1),
         written(joined)
     )
 }
 
 pub fn worst_map(layer: &[usize; 16], kernel: &[i16], map: &mut [i16]) -> usize {
-    called!(wemsteky_worst_map(layer.as_ptr()), read(kernel), written(map))
+    called!(c::wemsteky_worst_map, (layer.as_ptr()), read(kernel), written(map))
 }

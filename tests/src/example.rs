@@ -4,7 +4,9 @@ use crate::call::Call;
 use crate::checked;
 use crate::direct::direct_sums;
 use crate::draw;
+use crate::engine::Engine;
 use crate::layer::Layer;
+use crate::parts::ENGINES_AND_FIELDS;
 use crate::random::Random;
 
 pub struct Example<'a> {
@@ -17,10 +19,10 @@ pub struct Example<'a> {
 }
 
 impl Example<'_> {
-    /// Holds the direct sums and a run to the known output, in both fields.
+    /// Holds the direct sums and a run to the known output, by each engine in each field.
     pub fn hold(&self) {
-        for field in [4, 5] {
-            let call = self.call(field);
+        for (engine, field) in ENGINES_AND_FIELDS {
+            let call = self.call(engine, field);
             let sums = direct_sums(&call.layer, self.map, self.kernel);
             let known: Vec<i64> = self.output.iter().map(|&word| i64::from(word)).collect();
             assert_eq!(sums, known, "direct sums of {}", self.name);
@@ -30,17 +32,18 @@ impl Example<'_> {
         }
     }
 
-    fn call(&self, field: usize) -> Call {
+    fn call(&self, engine: Engine, field: usize) -> Call {
         let peak = self.map.iter().map(|value| usize::from(value.unsigned_abs())).max().unwrap_or(1);
         let layer = Layer { field, peak, ..self.layer };
         Call {
+            engine,
             layer,
             next: 0,
             budget: 0,
             map: self.map.to_vec(),
             kernel: self.kernel.to_vec(),
             output_length: self.output.len(),
-            scratch_length: layer.scratch_words(),
+            scratch_length: engine.scratch_words(&layer),
         }
     }
 }

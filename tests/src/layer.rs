@@ -1,8 +1,5 @@
-//! A layer as its sixteen numbers: its full output, its tiles and the lengths that it asks for, from the request's
-//! formulas. Sizes are taken in 128 bits; they are asked for only of layers whose numbers are inside their ranges.
-
-use crate::transform::points;
-use std::ops::Range;
+//! A layer as its sixteen numbers: its full output and the lengths that it asks for, from the request's formulas. Sizes
+//! are taken in 128 bits; they are asked for only of layers whose numbers are inside their ranges.
 
 pub const CONV: usize = 0;
 pub const TCONV: usize = 1;
@@ -124,52 +121,12 @@ impl Layer {
         product(&[self.outputs, self.rows, self.columns])
     }
 
-    /// 3N².
-    pub fn scratch_words(&self) -> usize {
-        3 * points(self.field) * points(self.field)
-    }
-
-    /// L.
-    pub fn tile_side(&self) -> usize {
-        points(self.field) - self.side + 1
-    }
-
     /// How far wanted outputs stand apart on the stride-1 grid.
-    fn step(&self) -> usize {
+    pub fn step(&self) -> usize {
         match self.kind {
             CONV => self.stride,
             _ => 1,
         }
-    }
-
-    /// Tiles down: the span of h wanted rows, in parts of L.
-    fn tiles_down(&self) -> usize {
-        ((self.rows - 1) * self.step() + 1).div_ceil(self.tile_side())
-    }
-
-    fn tiles_across(&self) -> usize {
-        ((self.columns - 1) * self.step() + 1).div_ceil(self.tile_side())
-    }
-
-    pub fn tile_total(&self) -> usize {
-        self.outputs * self.tiles_down() * self.tiles_across()
-    }
-
-    /// The tile that holds an output; row and column are counted from the crop's first.
-    pub fn tile_of(&self, channel: usize, row: usize, column: usize) -> usize {
-        let down = row * self.step() / self.tile_side();
-        let across = column * self.step() / self.tile_side();
-        (channel * self.tiles_down() + down) * self.tiles_across() + across
-    }
-
-    /// The places in the output, in order, of the outputs that some tiles hold.
-    pub fn places(&self, tiles: Range<usize>) -> impl Iterator<Item = usize> {
-        let layer = *self;
-        let output = (0..layer.outputs).flat_map(move |channel| {
-            (0..layer.rows).flat_map(move |row| (0..layer.columns).map(move |column| (channel, row, column)))
-        });
-        let held = output.map(move |(channel, row, column)| tiles.contains(&layer.tile_of(channel, row, column)));
-        held.enumerate().filter_map(|(place, held)| held.then_some(place))
     }
 
     /// Where the K by K weights from a map channel to an output channel begin in the kernel.
@@ -184,30 +141,4 @@ impl Layer {
 
 fn product(numbers: &[usize]) -> u128 {
     numbers.iter().map(|&number| number as u128).product()
-}
-
-#[cfg(test)]
-mod tests {
-    use super::*;
-
-    #[test]
-    fn tiles_of_chart_case_11() {
-        let layer = |height| Layer::of([CONV, 4, 1, 1, height, 32, 3, 1, 0, 1, 0, 0, 0, 0]).uncropped();
-        assert_eq!(layer(32).tile_total(), 1);
-        assert_eq!(layer(33).tile_total(), 2);
-    }
-
-    #[test]
-    fn every_tile_holds_an_output_and_no_other_number_is_a_tile() {
-        let layer = Layer::of([CONV, 4, 1, 2, 70, 90, 11, 4, 3, 1, 2, 1, 10, 20]);
-        let mut held = vec![false; layer.tile_total()];
-        for channel in 0..layer.outputs {
-            for row in 0..layer.rows {
-                for column in 0..layer.columns {
-                    held[layer.tile_of(channel, row, column)] = true;
-                }
-            }
-        }
-        assert!(held.iter().all(|&tile| tile));
-    }
 }

@@ -19,6 +19,7 @@ pub mod layer;
 pub mod levels;
 pub mod list;
 pub mod noise;
+pub mod parts;
 pub mod quick;
 pub mod random;
 pub mod rules;

@@ -19,13 +19,13 @@ pub struct List {
 impl List {
     /// The call's job, with buffers of any contents.
     pub fn new(random: &mut Random, call: Call) -> List {
-        let buffers = draw::buffers(random, &call);
-        List { call, buffers, accepted: 0, refused: 0, damages: damages() }
+        let (buffers, damages) = (draw::buffers(random, &call), damages(call.engine));
+        List { call, buffers, accepted: 0, refused: 0, damages }
     }
 
     /// Makes an accepted call with a drawn budget. The list's index is then the one that it hands back.
     pub fn advance(&mut self, random: &mut Random, sums: Option<&[i64]>) -> Answer {
-        self.call.budget = budget(random, self.call.layer.tile_total() - self.call.next);
+        self.call.budget = budget(random, self.call.total() - self.call.next);
         self.lend_scratch(random);
         let answer = checked::job(&self.call, &mut self.buffers, sums);
         assert_eq!(answer.number, 0, "{:?} is refused", self.call.layer);
@@ -37,7 +37,7 @@ impl List {
     /// Makes a call that is refused, in some of them with another map and kernel. It changes nothing.
     pub fn refuse(&mut self, random: &mut Random) {
         self.lend_scratch(random);
-        let mut call = Call { budget: budget(random, self.call.layer.tile_total()), ..self.call.clone() };
+        let mut call = Call { budget: budget(random, self.call.total()), ..self.call.clone() };
         if random.once_in(2) {
             call.map = draw::map(random, &call.layer);
             call.kernel = draw::kernel(random, &call.layer);
@@ -49,10 +49,10 @@ impl List {
         self.refused += 1;
     }
 
-    /// Makes calls from tile 0 until one says done, and checks after each that the index is the lesser of the total and
+    /// Makes calls from part 0 until one says done, and checks after each that the index is the lesser of the total and
     /// all budgets.
     pub fn finish(&mut self, random: &mut Random, sums: Option<&[i64]>) {
-        let total = self.call.layer.tile_total() as u128;
+        let total = self.call.total() as u128;
         let mut budgets = 0;
         self.call.next = 0;
         loop {
@@ -69,13 +69,13 @@ impl List {
     }
 
     fn lend_scratch(&mut self, random: &mut Random) {
-        self.call.scratch_length = self.call.layer.scratch_words() + random.below(20);
+        self.call.scratch_length = self.call.scratch_words() + random.below(20);
         self.buffers.scratch = draw::scratch(random, self.call.scratch_length);
     }
 }
 
-/// A budget for a job with so many tiles left: none, few, a part; now and then all, one more, or up to the greatest
-/// number.
+/// A budget for a job with so many parts left: none, few, a quarter at most; now and then all, one more, or up to the
+/// greatest number.
 fn budget(random: &mut Random, left: usize) -> usize {
     match random.below(10) {
         0 => 0,

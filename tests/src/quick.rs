@@ -166,6 +166,7 @@ mod tests {
     use super::*;
     use crate::direct::direct_sums;
     use crate::draw;
+    use crate::engine::Engine;
     use crate::random::Random;
 
     #[test]
@@ -174,7 +175,7 @@ mod tests {
         for trial in 0..2_000 {
             let mut random = Random::new("quick sums", trial);
             let layer = draw::any_layer(&mut random, trial % 2, 4 + trial / 2 % 2, 3, 70);
-            let call = draw::call(&mut random, layer);
+            let call = draw::call(&mut random, Engine::Tiles, layer);
             let mut output = vec![0x5555_5555; call.output_length];
             quick_sums(&layer, &call.map, &call.kernel, &mut output, &mut work);
             let sums = direct_sums(&layer, &call.map, &call.kernel);

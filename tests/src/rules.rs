@@ -1,6 +1,7 @@
 //! The number that a call returns, from the request's table: the rules in its order, sums taken in whole numbers.
 
 use crate::call::Call;
+use crate::engine::Engine;
 use crate::groups::{channel_weights, groups};
 use crate::layer::{Layer, CONV};
 use crate::transform::{modulus, points};
@@ -11,7 +12,7 @@ type Rule = (usize, fn(&Call) -> bool);
 /// The table. Rules are ordered by their place in it, not by their number.
 static RULES: [Rule; 20] = [
     (1, |call| call.layer.kind == 0 || call.layer.kind == 1),
-    (2, |call| call.layer.field == 4 || call.layer.field == 5),
+    (2, |call| inside(4, call.engine.last_field(), call.layer.field)),
     (3, |call| inside(1, 64, call.layer.inputs) && inside(1, 64, call.layer.outputs)),
     (4, |call| inside(1, 512, call.layer.height) && inside(1, 512, call.layer.width)),
     (5, |call| inside(1, 11, call.layer.side)),
@@ -23,13 +24,13 @@ static RULES: [Rule; 20] = [
     (10, |call| call.map.len() as u128 == call.layer.map_length()),
     (11, |call| call.kernel.len() as u128 == call.layer.kernel_length()),
     (12, |call| call.output_length as u128 == call.layer.output_length()),
-    (13, |call| call.scratch_length >= call.layer.scratch_words()),
+    (13, |call| call.scratch_length >= call.scratch_words()),
     (14, |call| inside(1, 32_767, call.layer.peak)),
     (15, |call| offender(&call.layer, &call.map).side != ABOVE),
     (25, |call| offender(&call.layer, &call.map).side != BELOW),
     (24, |call| !(0..call.layer.outputs).any(|channel| is_blank(&call.layer, &call.kernel, channel))),
     (16, |call| (0..call.layer.outputs).all(|channel| load(call, channel) <= load_limit(call.layer.field))),
-    (17, |call| call.next <= call.layer.tile_total()),
+    (17, |call| call.next <= call.total()),
 ];
 
 fn inside(least: usize, most: usize, number: usize) -> bool {
@@ -152,8 +153,8 @@ pub fn first_broken_of(numbers: &[usize], call: &Call) -> usize {
 }
 
 /// What the planner returns.
-pub fn plan_number(layer: &Layer) -> usize {
-    first_broken(LAST_OF_PLAN, &Call { layer: *layer, ..Call::default() })
+pub fn plan_number(engine: Engine, layer: &Layer) -> usize {
+    first_broken(LAST_OF_PLAN, &Call { engine, layer: *layer, ..Call::default() })
 }
 
 /// What a job call returns. A run is the same with the index 0.

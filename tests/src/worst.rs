@@ -2,6 +2,7 @@
 //! map is 0 everywhere but in the window of the output that it is made for.
 
 use crate::call::Call;
+use crate::engine::Engine;
 use crate::layer::{Layer, CONV};
 use crate::rules::{first_broken_of, load, plan_number};
 
@@ -27,7 +28,7 @@ pub fn greatest_load(call: &Call) -> (usize, u128) {
 
 /// What `worst_map` returns, given a map of the call's length. The call's output, scratch and map values count for nothing.
 pub fn number(call: &Call) -> usize {
-    let number = plan_number(&call.layer);
+    let number = plan_number(Engine::Tiles, &call.layer);
     if number != 0 {
         return number;
     }

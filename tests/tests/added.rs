@@ -4,8 +4,10 @@
 use wemsteky_tests::call::Call;
 use wemsteky_tests::checked::{self, whole_run};
 use wemsteky_tests::draw;
+use wemsteky_tests::engine::Engine;
 use wemsteky_tests::layer::{Layer, CONV, TCONV};
 use wemsteky_tests::list::List;
+use wemsteky_tests::parts::ENGINES_AND_FIELDS;
 use wemsteky_tests::random::Random;
 
 /// Every K, P and S with every count of rows and of columns.
@@ -34,11 +36,11 @@ fn whole_layer(random: &mut Random, window: Layer, field: usize) -> Layer {
     layer.uncropped()
 }
 
-fn every_window(test: &'static str, field: usize) {
+fn every_window(test: &'static str, engine: Engine, field: usize) {
     for (trial, window) in windows().enumerate() {
         let mut random = Random::new(test, trial);
         let layer = whole_layer(&mut random, window, field);
-        let call = draw::call(&mut random, layer);
+        let call = draw::call(&mut random, engine, layer);
         let sums = whole_run(&mut random, &call);
         if trial % 8 == 0 {
             List::new(&mut random, call).finish(&mut random, Some(&sums));
@@ -48,12 +50,17 @@ fn every_window(test: &'static str, field: usize) {
 
 #[test]
 fn every_window_in_field_4() {
-    every_window("added, every window in field 4", 4);
+    every_window("added, every window in field 4", Engine::Tiles, 4);
 }
 
 #[test]
 fn every_window_in_field_5() {
-    every_window("added, every window in field 5", 5);
+    every_window("added, every window in field 5", Engine::Tiles, 5);
+}
+
+#[test]
+fn every_window_by_strips() {
+    every_window("added, every window by strips", Engine::Strips, 4);
 }
 
 /// Without padding the kernel of the last map value ends before the added places, so that they are 0; and the places before
@@ -62,8 +69,9 @@ fn every_window_in_field_5() {
 fn added_places_are_0_without_padding() {
     for (trial, window) in windows().filter(|window| window.padding == 0).enumerate() {
         let mut random = Random::new("added, no padding", trial);
-        let layer = whole_layer(&mut random, window, 4);
-        let call = draw::call(&mut random, layer);
+        let (engine, field) = ENGINES_AND_FIELDS[trial % ENGINES_AND_FIELDS.len()];
+        let layer = whole_layer(&mut random, window, field);
+        let call = draw::call(&mut random, engine, layer);
         let sums = whole_run(&mut random, &call);
         let (rows, columns) = (layer.rows - layer.below, layer.columns - layer.beside);
         let smaller = Layer { below: 0, beside: 0, rows, columns, ..layer };
@@ -82,11 +90,13 @@ fn added_places_are_0_without_padding() {
 fn added_places_with_padding() {
     let layer = Layer::of([TCONV, 4, 1, 1, 1, 1, 3, 2, 1, 1, 0, 0, 0, 0]);
     for (below, beside, sums) in [(0, 0, vec![5]), (1, 0, vec![5, 8]), (0, 1, vec![5, 6]), (1, 1, vec![5, 6, 8, 9])] {
-        let layer = Layer { below, beside, ..layer }.uncropped();
         let mut random = Random::new("added, with padding", 2 * below + beside);
-        let mut call = draw::call(&mut random, layer);
-        (call.map, call.kernel) = (vec![1], (1..=9).collect());
-        assert_eq!(whole_run(&mut random, &call), sums);
+        for (engine, field) in ENGINES_AND_FIELDS {
+            let layer = Layer { field, below, beside, ..layer }.uncropped();
+            let mut call = draw::call(&mut random, engine, layer);
+            (call.map, call.kernel) = (vec![1], (1..=9).collect());
+            assert_eq!(whole_run(&mut random, &call), sums);
+        }
     }
 }
 
@@ -95,9 +105,13 @@ fn added_places_with_padding() {
 fn the_first_output_comes_with_the_added_rows() {
     for (stride, added, number) in [(2, 0, 8), (2, 1, 8), (3, 0, 8), (3, 1, 8), (3, 2, 0), (4, 2, 0), (4, 3, 0)] {
         let layer = Layer::of([TCONV, 4, 1, 1, 1, 9, 3, stride, 2, 1, 0, 0, 1, 1]);
-        assert_eq!(checked::plan(&Layer { below: added, ..layer }), number, "rows, S {stride}, {added} added");
+        assert_eq!(checked::plan_by_both(&Layer { below: added, ..layer }), number, "rows, S {stride}, {added} added");
         let layer = Layer { height: 9, width: 1, ..layer };
-        assert_eq!(checked::plan(&Layer { beside: added, ..layer }), number, "columns, S {stride}, {added} added");
+        assert_eq!(
+            checked::plan_by_both(&Layer { beside: added, ..layer }),
+            number,
+            "columns, S {stride}, {added} added"
+        );
     }
 }
 
@@ -111,8 +125,8 @@ fn what_is_added_is_refused_in_order() {
             let number = if count <= most { 0 } else { 23 };
             for (below, beside) in [(count, 0), (0, count), (count, count)] {
                 let added = Layer { below, beside, ..layer };
-                assert_eq!(checked::plan(&added), number, "{added:?}");
-                assert_eq!(checked::plan(&Layer { padding: 3, ..added }), 7, "7 before 23: {added:?}");
+                assert_eq!(checked::plan_by_both(&added), number, "{added:?}");
+                assert_eq!(checked::plan_by_both(&Layer { padding: 3, ..added }), 7, "7 before 23: {added:?}");
             }
             let none = Layer { below: count, ..layer };
             let none = if kind == CONV { Layer { height: 1, ..none } } else { Layer { height: 1, padding: 2, ..none } };
@@ -121,7 +135,7 @@ fn what_is_added_is_refused_in_order() {
                 _ if kind == TCONV && count >= 2 => 0,
                 _ => 8,
             };
-            assert_eq!(checked::plan(&none), expected, "23 before 8: {none:?}");
+            assert_eq!(checked::plan_by_both(&none), expected, "23 before 8: {none:?}");
         }
     }
 }

@@ -5,6 +5,7 @@ use wemsteky_tests::bench::{printed, small, LONGEST, UNREADABLE};
 use wemsteky_tests::bench_input::{call, joined, spoiled, text, words};
 use wemsteky_tests::bench_program::{hold, hold_known, run, Answer, Seen};
 use wemsteky_tests::draw;
+use wemsteky_tests::engine::Engine;
 use wemsteky_tests::layer::{Layer, CONV, TCONV};
 use wemsteky_tests::random::{seed, Random};
 use wemsteky_tests::rules::plan_number;
@@ -330,10 +331,10 @@ const RANGES: [(usize, usize); 14] = [
 fn drawn_header(random: &mut Random) -> Vec<u8> {
     let layer = Layer::of(RANGES.map(|range| figure(random, range)));
     let header = joined(&layer.numbers()[..14].iter().map(usize::to_string).collect::<Vec<_>>());
-    if plan_number(&layer) != 0 || !small(&layer) {
+    if plan_number(Engine::Tiles, &layer) != 0 || !small(&layer) {
         return header;
     }
-    let call = draw::call(random, Layer { peak: layer.peak.clamp(1, 32_767), ..layer });
+    let call = draw::call(random, Engine::Tiles, Layer { peak: layer.peak.clamp(1, 32_767), ..layer });
     [header, joined(&words(&call)[14..])].join(&b' ')
 }
 

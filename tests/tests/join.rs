@@ -3,11 +3,12 @@
 
 use wemsteky_tests::call::{Buffer, Call};
 use wemsteky_tests::direct::direct_sums;
+use wemsteky_tests::engine::{self, Engine};
 use wemsteky_tests::join::{joined_layer, joined_weights, number, Filter};
 use wemsteky_tests::layer::{Layer, CONV};
 use wemsteky_tests::random::{seed, Random};
 use wemsteky_tests::rules::{is_blank, load_limit};
-use wemsteky_tests::{checked, draw, engine};
+use wemsteky_tests::{checked, draw};
 
 /// Makes a call whose buffer for the joined kernel has `room` places, holds everything that it returns and leaves, and
 /// returns its answer and the kernel.
@@ -85,7 +86,7 @@ fn the_engine_on_the_joined_kernel_does_what_both_layers_do() {
         let (answer, joined) = hold((&first, &first_kernel), (&second, &second_kernel), room);
         assert_eq!(answer, 0, "{first:?}, {second:?}");
         let layer = joined_layer(&first, &second).uncropped();
-        let call = Call { kernel: joined, ..draw::call(&mut random, layer) };
+        let call = Call { kernel: joined, ..draw::call(&mut random, Engine::Tiles, layer) };
         let middle = direct_sums(&first, &call.map, &first_kernel);
         let sums = direct_sums(&second, &middle, &second_kernel);
         let mut buffers = draw::buffers(&mut random, &call);

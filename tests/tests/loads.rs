@@ -5,6 +5,7 @@ use wemsteky_tests::call::Call;
 use wemsteky_tests::checked;
 use wemsteky_tests::direct::direct_sums;
 use wemsteky_tests::draw;
+use wemsteky_tests::engine::Engine;
 use wemsteky_tests::groups::{channel_weights, groups, set_group};
 use wemsteky_tests::layer::{Layer, TCONV};
 use wemsteky_tests::list::List;
@@ -29,12 +30,16 @@ fn peak(random: &mut Random, field: usize) -> (usize, usize) {
 
 /// A call whose every group has as much as the peak leaves, weights and map drawn. Three map channels are enough for
 /// that in every group.
-fn full_call(random: &mut Random, field: usize, (stride, side, padding): (usize, usize, usize)) -> Call {
+fn full_call(
+    random: &mut Random,
+    (engine, field): (Engine, usize),
+    (stride, side, padding): (usize, usize, usize),
+) -> Call {
     let (peak, total) = peak(random, field);
     let length = 2 * side.div_ceil(stride) + 2;
     let outputs = random.between(1, 2);
     let layer = Layer::of([TCONV, field, 3, outputs, length, length, side, stride, padding, peak, 0, 0, 0, 0]);
-    let mut call = draw::call(random, layer.uncropped());
+    let mut call = draw::call(random, engine, layer.uncropped());
     for channel in 0..outputs {
         for group in groups(&layer) {
             let weights = draw::weights(random, group.len(), total);
@@ -48,7 +53,7 @@ fn full_call(random: &mut Random, field: usize, (stride, side, padding): (usize,
 /// Holds a plan, a run and a job call to the number that they must answer with.
 fn answered(random: &mut Random, call: &Call, number: usize) {
     let mut buffers = draw::buffers(random, call);
-    assert_eq!(checked::plan(&call.layer), 0, "{:?}", call.layer);
+    assert_eq!(checked::plan(call.engine, &call.layer), 0, "{:?}", call.layer);
     assert_eq!(checked::run(call, &mut buffers, None).number, number, "{:?}", call.layer);
     assert_eq!(checked::job(call, &mut buffers, None).number, number, "{:?}", call.layer);
 }
@@ -70,10 +75,10 @@ fn one_more_in_each_group(random: &mut Random, call: &Call) {
 
 /// Every group at its limit: accepted, though the sum of all sizes is above it; a whole job in budgets leaves the direct
 /// sums.
-fn at_every_limit(test: &'static str, field: usize) {
+fn at_every_limit(test: &'static str, engine: Engine, field: usize) {
     for (trial, window) in windows().enumerate() {
         let mut random = Random::new(test, trial);
-        let call = full_call(&mut random, field, window);
+        let call = full_call(&mut random, (engine, field), window);
         assert_eq!(formerly_refused(&call), groups(&call.layer).len() > 1, "{:?}", call.layer);
         answered(&mut random, &call, 0);
         one_more_in_each_group(&mut random, &call);
@@ -87,12 +92,17 @@ fn at_every_limit(test: &'static str, field: usize) {
 
 #[test]
 fn every_group_at_its_limit_in_field_4() {
-    at_every_limit("loads, limits in field 4", 4);
+    at_every_limit("loads, limits in field 4", Engine::Tiles, 4);
 }
 
 #[test]
 fn every_group_at_its_limit_in_field_5() {
-    at_every_limit("loads, limits in field 5", 5);
+    at_every_limit("loads, limits in field 5", Engine::Tiles, 5);
+}
+
+#[test]
+fn every_group_at_its_limit_by_strips() {
+    at_every_limit("loads, limits by strips", Engine::Strips, 4);
 }
 
 /// Sets the map values that an output of a channel meets to the peak, each with its weight's sign, so that the output is
@@ -117,11 +127,11 @@ fn places(layer: &Layer) -> impl Iterator<Item = (usize, usize)> {
 }
 
 /// For each group an output as large as the load, of either sign.
-fn greatest_outputs(test: &'static str, field: usize) -> Vec<i64> {
+fn greatest_outputs(test: &'static str, engine: Engine, field: usize) -> Vec<i64> {
     let mut reached = Vec::new();
     for (trial, window) in windows().enumerate() {
         let mut random = Random::new(test, trial);
-        let mut call = full_call(&mut random, field, window);
+        let mut call = full_call(&mut random, (engine, field), window);
         let layer = call.layer;
         for (row, column) in places(&layer) {
             let channel = random.below(layer.outputs);
@@ -139,13 +149,26 @@ fn greatest_outputs(test: &'static str, field: usize) -> Vec<i64> {
 }
 
 /// Both ends of what a residue reads as, or in F_5 the greatest load of a layer.
-#[test]
-fn outputs_as_large_as_the_load() {
-    let mut reached = greatest_outputs("loads, greatest outputs in field 4", 4);
-    reached.extend(greatest_outputs("loads, greatest outputs in field 5", 5));
-    for end in [32_768, -32_768, 2_147_483_646, -2_147_483_646] {
+fn as_large_as_the_load(test: &'static str, engine: Engine, field: usize, greatest: i64) {
+    let reached = greatest_outputs(test, engine, field);
+    for end in [greatest, -greatest] {
         assert!(reached.contains(&end), "no output is {end}, seed {}", seed());
     }
+}
+
+#[test]
+fn outputs_as_large_as_the_load_in_field_4() {
+    as_large_as_the_load("loads, greatest outputs in field 4", Engine::Tiles, 4, 32_768);
+}
+
+#[test]
+fn outputs_as_large_as_the_load_in_field_5() {
+    as_large_as_the_load("loads, greatest outputs in field 5", Engine::Tiles, 5, 2_147_483_646);
+}
+
+#[test]
+fn outputs_as_large_as_the_load_by_strips() {
+    as_large_as_the_load("loads, greatest outputs by strips", Engine::Strips, 4, 32_768);
 }
 
 /// Calls as the tests of runs and jobs draw them, a quarter of them with stride 1: many kernels are let in by their
@@ -155,7 +178,7 @@ fn drawn_kernels_are_let_in_by_groups() {
     let gained = |&trial: &usize| {
         let mut random = Random::new("loads, drawn kernels", trial);
         let layer = draw::any_layer(&mut random, TCONV, 4 + trial % 2, 4, 12);
-        formerly_refused(&draw::call(&mut random, layer))
+        formerly_refused(&draw::call(&mut random, Engine::Tiles, layer))
     };
     let count = (0..1_000).filter(gained).count();
     assert!(count > 400, "{count} of 1000 kernels are let in by groups, seed {}", seed());

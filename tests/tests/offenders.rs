@@ -3,17 +3,18 @@
 
 use wemsteky_tests::call::Call;
 use wemsteky_tests::damage::{breakable_layer, damages, set_above};
-use wemsteky_tests::engine::Answer;
+use wemsteky_tests::engine::{Answer, Engine};
+use wemsteky_tests::kinds::in_turn;
 use wemsteky_tests::layer::{Layer, CONV, TCONV};
+use wemsteky_tests::parts::ENGINES;
 use wemsteky_tests::random::Random;
 use wemsteky_tests::rules::{place, Offender, ABOVE, BELOW};
-use wemsteky_tests::{checked, draw, for_kinds_and_fields};
+use wemsteky_tests::{checked, draw, for_kinds_and_engines};
 
-/// A run and a job call from any tile, which must answer alike but for the index handed back.
+/// A run and a job call from any part, which must answer alike but for the index handed back.
 fn answered(random: &mut Random, call: &Call) -> Answer {
     let mut buffers = draw::buffers(random, call);
-    let later =
-        Call { next: random.below(call.layer.tile_total() + 1), budget: random.word() as usize, ..call.clone() };
+    let later = Call { next: random.below(call.total() + 1), budget: random.word() as usize, ..call.clone() };
     let run = checked::run(call, &mut buffers, None);
     let job = checked::job(&later, &mut buffers, None);
     assert_eq!((run.number, run.offender), (job.number, job.offender), "{:?}", call.layer);
@@ -36,13 +37,13 @@ fn beyond(peak: usize) -> Vec<(i16, usize)> {
 const MAPS: [(usize, usize, usize); 8] =
     [(1, 1, 1), (1, 1, 5), (1, 4, 1), (3, 1, 1), (2, 2, 3), (2, 3, 2), (3, 1, 4), (4, 5, 1)];
 
-fn one_at_every_place(test: &'static str, kind: usize, field: usize) {
+fn one_at_every_place(test: &'static str, kind: usize, engine: Engine, field: usize) {
     for (trial, (inputs, height, width)) in MAPS.into_iter().enumerate() {
         let mut random = Random::new(test, trial);
         let peak = random.pick(&[1, 2, 127, 128, 255, 32_766, 32_767]);
         let layer =
             Layer { inputs, ..Layer::of([kind, field, 1, 2, height, width, 1, 1, 0, peak, 0, 0, height, width]) };
-        let call = draw::call(&mut random, layer);
+        let call = draw::call(&mut random, engine, layer);
         for (place, (value, side)) in
             (0..call.map.len()).flat_map(|place| beyond(peak).into_iter().map(move |v| (place, v)))
         {
@@ -57,17 +58,18 @@ fn one_at_every_place(test: &'static str, kind: usize, field: usize) {
     }
 }
 
-for_kinds_and_fields!(one_at_every_place, "offenders, every place");
+for_kinds_and_engines!(one_at_every_place, "offenders, every place");
 
 /// Two to many values beyond the peak, on sides that are drawn: the first in stored order is told, whichever its side.
 #[test]
 fn the_first_of_several() {
     let mut seen = [0; 3];
-    for trial in 0..600 {
+    for trial in 0..900 {
         let mut random = Random::new("offenders, several", trial);
-        let layer = draw::any_layer(&mut random, trial % 2, 4 + trial / 2 % 2, 4, 12);
+        let (kind, engine, field) = in_turn(trial);
+        let layer = draw::any_layer(&mut random, kind, field, 4, 12);
         let layer = Layer { peak: layer.peak.min(32_766), ..layer };
-        let mut call = draw::call(&mut random, layer);
+        let mut call = draw::call(&mut random, engine, layer);
         let (mut first, mut first_side) = (usize::MAX, 0);
         for _ in 0..random.between(2, 9) {
             let place = random.below(call.map.len());
@@ -90,8 +92,12 @@ fn the_first_of_several() {
 /// Every peak with the values at it, next to it and at the ends of 16 bits. Of A 32,767 only −32,768 is beyond.
 #[test]
 fn every_peak() {
+    ENGINES.into_iter().for_each(every_peak_of);
+}
+
+fn every_peak_of(engine: Engine) {
     let mut random = Random::new("offenders, every peak", 0);
-    let mut call = draw::call(&mut random, Layer::of([CONV, 4, 1, 1, 1, 1, 1, 1, 0, 1, 0, 0, 1, 1]));
+    let mut call = draw::call(&mut random, engine, Layer::of([CONV, 4, 1, 1, 1, 1, 1, 1, 0, 1, 0, 0, 1, 1]));
     call.kernel = vec![1];
     let mut buffers = draw::buffers(&mut random, &call);
     let mut side_of = |peak: usize, value: i16| {
@@ -112,11 +118,12 @@ fn every_peak() {
 /// reached.
 #[test]
 fn in_order() {
-    for trial in 0..40 {
+    for trial in 0..60 {
         let mut random = Random::new("offenders, order", trial);
-        let layer = breakable_layer(&mut random, trial % 2, 4 + trial / 2 % 2, 3, 12);
-        let call = draw::call(&mut random, layer);
-        for damage in damages().iter().filter(|damage| place(damage.rule) != place(15)) {
+        let (kind, engine, field) = in_turn(trial);
+        let layer = breakable_layer(&mut random, kind, field, 3, 12);
+        let call = draw::call(&mut random, engine, layer);
+        for damage in damages(engine).iter().filter(|damage| place(damage.rule) != place(15)) {
             let mut damaged = call.clone();
             let later = place(damage.rule) > place(15);
             if later {
@@ -142,10 +149,12 @@ fn in_order() {
 /// The greatest map: its last value, then the first of its last channel as well.
 #[test]
 fn the_greatest_map() {
-    for (kind, side) in [(CONV, ABOVE), (TCONV, BELOW)] {
+    for (kind, engine, side) in
+        [(CONV, Engine::Tiles, ABOVE), (TCONV, Engine::Tiles, BELOW), (TCONV, Engine::Strips, ABOVE)]
+    {
         let mut random = Random::new("offenders, the greatest map", kind);
         let layer = Layer::of([kind, 4, 64, 1, 512, 512, 1, 1, 0, 100, 0, 0, 1, 1]);
-        let mut call = draw::call(&mut random, layer);
+        let mut call = draw::call(&mut random, engine, layer);
         let value = if side == ABOVE { 101 } else { -101 };
         *call.map.last_mut().unwrap() = value;
         let mut buffers = draw::buffers(&mut random, &call);

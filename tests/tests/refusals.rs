@@ -3,24 +3,28 @@
 
 use wemsteky_tests::call::{Buffer, Buffers, Call};
 use wemsteky_tests::damage::{breakable_layer, damages};
+use wemsteky_tests::engine::{self, Engine};
 use wemsteky_tests::groups::{groups, set_group};
+use wemsteky_tests::kinds::in_turn;
 use wemsteky_tests::layer::{Layer, CONV, TCONV};
+use wemsteky_tests::parts::ENGINES_AND_FIELDS;
 use wemsteky_tests::random::Random;
 use wemsteky_tests::rules::{is_up_to, load, load_limit, place, transform_number, LAST_OF_PLAN, LAST_OF_RUN};
 use wemsteky_tests::transform::{modulus, points};
-use wemsteky_tests::{checked, draw, engine};
+use wemsteky_tests::{checked, draw};
 
 /// A small call that every rule accepts and on which every rule can be broken, and its buffers.
 fn sound(random: &mut Random, trial: usize) -> (Call, Buffers) {
-    let layer = breakable_layer(random, trial % 2, 4 + trial / 2 % 2, 3, 12);
-    let call = draw::call(random, layer);
+    let (kind, engine, field) = in_turn(trial);
+    let layer = breakable_layer(random, kind, field, 3, 12);
+    let call = draw::call(random, engine, layer);
     let buffers = draw::buffers(random, &call);
     (call, buffers)
 }
 
 /// Plans, runs and advances, each held to the rules; the number of the job call is returned.
 fn number(call: &Call, buffers: &mut Buffers) -> usize {
-    let plan = checked::plan(&call.layer);
+    let plan = checked::plan(call.engine, &call.layer);
     let run = checked::run(call, buffers, None).number;
     let job = checked::job(call, buffers, None).number;
     assert_eq!(plan, if is_up_to(LAST_OF_PLAN, job) { job } else { 0 }, "plan of {:?}", call.layer);
@@ -30,26 +34,26 @@ fn number(call: &Call, buffers: &mut Buffers) -> usize {
 
 #[test]
 fn each_damage_is_answered_by_its_number() {
-    let damages = damages();
-    for trial in 0..60 {
+    for trial in 0..90 {
         let mut random = Random::new("refusals, each damage", trial);
         let (call, mut buffers) = sound(&mut random, trial);
+        let damages = damages(call.engine);
         for damage in &damages {
             let mut damaged = Call { budget: random.word() as usize, ..call.clone() };
             damage.apply(&mut damaged);
             assert_eq!(number(&damaged, &mut buffers), damage.rule, "{}", damage.name);
         }
         assert_eq!(number(&call, &mut buffers), 0, "{:?}", call.layer);
+        assert!((1..=17).chain([23, 24, 25]).all(|rule| damages.iter().any(|damage| damage.rule == rule)));
     }
-    assert!((1..=17).chain([23, 24, 25]).all(|rule| damages.iter().any(|damage| damage.rule == rule)));
 }
 
 #[test]
 fn of_two_damages_the_rule_earlier_in_the_table_answers() {
-    let damages = damages();
-    for trial in 0..8 {
+    for trial in 0..12 {
         let mut random = Random::new("refusals, two damages", trial);
         let (call, mut buffers) = sound(&mut random, trial);
+        let damages = damages(call.engine);
         for later in &damages {
             for earlier in damages.iter().filter(|earlier| place(earlier.rule) < place(later.rule)) {
                 let mut damaged = call.clone();
@@ -73,36 +77,41 @@ fn any_number(random: &mut Random, (least, most): (usize, usize)) -> usize {
 
 #[test]
 fn any_sixteen_numbers_are_answered_by_the_rules() {
-    let mut seen = [0; 24];
-    let mut random = Random::new("refusals, any numbers", 0);
-    for _ in 0..300_000 {
+    any_layers(&mut Random::new("refusals, any numbers", 0), Engine::Tiles, 300_000);
+    any_layers(&mut Random::new("refusals, any numbers by strips", 0), Engine::Strips, 150_000);
+}
+
+fn any_layers(random: &mut Random, engine: Engine, layers: usize) {
+    let (mut seen, field) = ([0; 24], (4, engine.last_field()));
+    for _ in 0..layers {
         let (channels, map) = ((1, 64), (1, random.pick(&[4, 30, 512])));
         let (side, stride, padding, peak) = ((1, 11), (1, 4), (0, 5), (1, 32_767));
         let (first, kept) = ((0, 12), (1, 12));
         let shape =
-            [(0, 1), (4, 5), channels, channels, map, map, side, stride, padding, peak, first, first, kept, kept];
-        let layer = Layer::of(shape.map(|range| any_number(&mut random, range)));
+            [(0, 1), field, channels, channels, map, map, side, stride, padding, peak, first, first, kept, kept];
+        let layer = Layer::of(shape.map(|range| any_number(random, range)));
         let most_added = if layer.kind == TCONV { 2 } else { 0 };
-        let [below, beside] = [(0, most_added); 2].map(|range| any_number(&mut random, range));
-        seen[checked::plan(&Layer { below, beside, ..layer })] += 1;
+        let [below, beside] = [(0, most_added); 2].map(|range| any_number(random, range));
+        seen[checked::plan(engine, &Layer { below, beside, ..layer })] += 1;
     }
-    assert!((0..=9).chain([23]).all(|number| seen[number] > 1_000), "{seen:?}");
+    assert!((0..=9).chain([23]).all(|number| seen[number] > layers / 300), "{seen:?}");
 }
 
 /// Every number at its least and at its greatest, and an index equal to the total.
 #[test]
 fn numbers_at_both_ends_are_accepted() {
-    for (kind, field) in [(0, 4), (0, 5), (1, 4), (1, 5)] {
+    for trial in 0..6 {
+        let (kind, engine, field) = in_turn(trial);
         let least = Layer::of([kind, field, 1, 1, 1, 1, 1, 1, 0, 1, 0, 0, 1, 1]);
         let most = Layer::of([kind, field, 64, 64, 512, 512, 11, 4, 10, 32_767, 0, 0, 0, 0]);
         let most = Layer { below: 3 * kind, beside: 3 * kind, ..most }.uncropped();
-        assert_eq!((checked::plan(&least), checked::plan(&most)), (0, 0));
-        let mut random = Random::new("refusals, both ends", kind + 2 * (field - 4));
-        let call = draw::call(&mut random, least);
+        assert_eq!((checked::plan(engine, &least), checked::plan(engine, &most)), (0, 0));
+        let mut random = Random::new("refusals, both ends", trial);
+        let call = draw::call(&mut random, engine, least);
         let mut buffers = draw::buffers(&mut random, &call);
         assert_eq!(number(&call, &mut buffers), 0);
-        let (call, mut buffers) = sound(&mut random, kind + 2 * (field - 4));
-        let ended = Call { next: call.layer.tile_total(), budget: usize::MAX, ..call };
+        let (call, mut buffers) = sound(&mut random, trial);
+        let ended = Call { next: call.total(), budget: usize::MAX, ..call };
         assert_eq!(checked::job(&ended, &mut buffers, None).done, 1, "an index equal to the total is accepted");
     }
 }
@@ -128,8 +137,8 @@ const PEAKS: [(usize, usize); 14] = [
 
 /// Gives a group of a channel a load one above the limit, spread over its map channels; then makes one of its weights
 /// smaller by 1.
-fn hold_load(random: &mut Random, layer: Layer) {
-    let mut call = draw::call(random, layer);
+fn hold_load(random: &mut Random, engine: Engine, layer: Layer) {
+    let mut call = draw::call(random, engine, layer);
     let mut buffers = draw::buffers(random, &call);
     let (channel, above) = (random.below(layer.outputs), load_limit(layer.field) + 1);
     let total = above as usize / layer.peak;
@@ -148,9 +157,11 @@ fn hold_load(random: &mut Random, layer: Layer) {
 #[test]
 fn a_load_one_above_the_limit_is_refused() {
     for (trial, (field, peak)) in PEAKS.into_iter().enumerate() {
-        for kind in [CONV, TCONV] {
-            let layer = Layer::of([kind, field, 3, 3, 9, 9, 5, 2, 1, peak, 0, 0, 2, 3]);
-            hold_load(&mut Random::new("refusals, loads", 2 * trial + kind), layer);
+        for (engine, _) in ENGINES_AND_FIELDS.into_iter().filter(|&(_, accepted)| accepted == field) {
+            for kind in [CONV, TCONV] {
+                let layer = Layer::of([kind, field, 3, 3, 9, 9, 5, 2, 1, peak, 0, 0, 2, 3]);
+                hold_load(&mut Random::new("refusals, loads", 2 * trial + kind), engine, layer);
+            }
         }
     }
 }

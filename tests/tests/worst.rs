@@ -2,14 +2,15 @@
 //! drives against direct sums, no output larger, and every map of tiny layers.
 
 use wemsteky_tests::call::{Buffer, Call};
+use wemsteky_tests::checked;
 use wemsteky_tests::damage::{breakable_layer, damages, Damage};
 use wemsteky_tests::direct::direct_sums;
 use wemsteky_tests::draw::{self, blank_channel, set_channel};
+use wemsteky_tests::engine::{self, Engine};
 use wemsteky_tests::layer::{Layer, CONV, TCONV};
 use wemsteky_tests::random::Random;
 use wemsteky_tests::rules::{load_limit, place};
 use wemsteky_tests::worst::{first_whole, greatest_load, number, worst_map};
-use wemsteky_tests::{checked, engine};
 
 /// Makes a call with a map of the call's length, and holds its answer, the map, the guard values around it and the kernel.
 /// Returns the answer and the map.
@@ -35,7 +36,7 @@ fn shown(random: &mut Random, call: &Call) -> u128 {
     let (answer, map) = hold(random, call);
     assert_eq!(answer, 0, "{:?}", call.layer);
     let load = greatest_load(call).1;
-    let run = Call { map, kernel: call.kernel.clone(), ..draw::call(random, call.layer) };
+    let run = Call { map, kernel: call.kernel.clone(), ..draw::call(random, Engine::Tiles, call.layer) };
     let sums = if load > load_limit(call.layer.field) {
         let mut buffers = draw::buffers(random, &run);
         assert_eq!(checked::run(&run, &mut buffers, None).number, 16, "{:?}", call.layer);
@@ -79,7 +80,7 @@ fn drawn_layers(test: &'static str, field: usize) {
     for trial in 0..600 {
         let mut random = Random::new(test, trial);
         let layer = windowed_layer(&mut random, field, 4, 30);
-        let mut call = draw::call(&mut random, layer);
+        let mut call = draw::call(&mut random, Engine::Tiles, layer);
         assert!(shown(&mut random, &call) <= load_limit(field), "{layer:?}");
         call.kernel = any_kernel(&mut random, &layer);
         refused += usize::from(shown(&mut random, &call) > load_limit(field));
@@ -157,7 +158,7 @@ fn ties_between_channels() {
     for trial in 0..300 {
         let mut random = Random::new("worst, ties", trial);
         let layer = Layer { outputs: random.between(1, 6), ..windowed_layer(&mut random, 4 + trial % 2, 4, 12) };
-        let mut call = draw::call(&mut random, layer);
+        let mut call = draw::call(&mut random, Engine::Tiles, layer);
         let (first, most) = (random.below(layer.outputs), random.between(2, 500));
         for channel in 0..layer.outputs {
             let tied = channel == first || channel > first && random.once_in(2);
@@ -183,7 +184,7 @@ fn at_the_limit_and_one_above() {
     ] {
         let mut random = Random::new("worst, limit", peak);
         let layer = Layer::of([CONV, field, 3, 1, 3, 4, 1, 1, 0, peak, 1, 1, 2, 3]);
-        let call = Call { kernel: kernel.to_vec(), ..draw::call(&mut random, layer) };
+        let call = Call { kernel: kernel.to_vec(), ..draw::call(&mut random, Engine::Tiles, layer) };
         let load = shown(&mut random, &call);
         let load_above = shown(&mut random, &Call { kernel: above.to_vec(), ..call });
         assert!(load <= load_limit(field) && load_limit(field) < load_above, "{load}, {load_above}");
@@ -210,7 +211,7 @@ fn every_map_of_tiny_layers() {
         let layer = Layer::of(numbers);
         let least = vec![i16::MIN; layer.kernel_length() as usize];
         for kernel in [draw::kernel(&mut random, &layer), least, any_kernel(&mut random, &layer)] {
-            let call = Call { kernel, ..draw::call(&mut random, layer) };
+            let call = Call { kernel, ..draw::call(&mut random, Engine::Tiles, layer) };
             let sums = every_map(&layer).flat_map(|map| direct_sums(&layer, &map, &call.kernel));
             let largest = sums.map(|sum| u128::from(sum.unsigned_abs())).max().unwrap();
             assert_eq!(largest, shown(&mut random, &call), "{layer:?}");
@@ -234,7 +235,7 @@ const CHECKED: [usize; 14] = [1, 2, 3, 4, 5, 6, 7, 23, 8, 9, 10, 11, 14, 24];
 /// The damages of these rules, and of 16, which is not checked. The other rules of a call are of what `worst_map` is not
 /// lent: an output, scratch, map values and an index.
 fn lent_damages() -> Vec<Damage> {
-    damages().into_iter().filter(|damage| CHECKED.contains(&damage.rule) || damage.rule == 16).collect()
+    damages(Engine::Tiles).into_iter().filter(|damage| CHECKED.contains(&damage.rule) || damage.rule == 16).collect()
 }
 
 /// Each damage alone and two at a time: the number of the first rule checked, and 29 where none is broken and the layer
@@ -267,7 +268,7 @@ fn sound(random: &mut Random, trial: usize) -> Call {
     loop {
         let layer = breakable_layer(random, kind, 4 + trial % 2, 3, 12);
         if kind == TCONV || first_whole(&layer).is_some() == (trial % 3 == 0) {
-            return draw::call(random, layer);
+            return draw::call(random, Engine::Tiles, layer);
         }
     }
 }

@@ -3,11 +3,12 @@
 
 use std::time::{Duration, Instant};
 use wemsteky_tests::call::{Buffers, Call};
+use wemsteky_tests::engine::Engine;
 use wemsteky_tests::layer::{Layer, CONV, TCONV};
 use wemsteky_tests::quick::quick_sums;
 use wemsteky_tests::random::Random;
 use wemsteky_tests::transform::points;
-use wemsteky_tests::{count, draw, engine};
+use wemsteky_tests::{count, draw};
 
 /// Rounds of each layer: so many at least, then more until a time has passed.
 const LEAST_ROUNDS: usize = 7;
@@ -54,7 +55,7 @@ fn layers() -> Vec<Layer> {
 /// A run of a layer, always the same, and its buffers.
 fn drawn(number: usize) -> (Call, Buffers) {
     let mut random = Random::new("benchmark", number);
-    let call = draw::call(&mut random, layers()[number]);
+    let call = draw::call(&mut random, Engine::Tiles, layers()[number]);
     let buffers = draw::buffers(&mut random, &call);
     (call, buffers)
 }
@@ -62,7 +63,7 @@ fn drawn(number: usize) -> (Call, Buffers) {
 /// A job call from tile 0.
 fn advance(call: &Call, budget: usize, buffers: &mut Buffers) {
     let (output, scratch) = (buffers.output.lend(call.output_length), buffers.scratch.lend(call.scratch_length));
-    let answer = engine::job(&call.layer.numbers(), (0, budget), (&call.map, &call.kernel), output, scratch);
+    let answer = call.engine.job(&call.layer.numbers(), (0, budget), (&call.map, &call.kernel), output, scratch);
     assert_eq!(answer.number, 0, "{:?} is refused", call.layer);
 }
 
@@ -130,7 +131,7 @@ fn line(words: [String; 15]) -> String {
 /// Measures a layer; the engine and the direct sums must agree.
 fn measured(number: usize) -> String {
     let (call, mut buffers) = drawn(number);
-    let (layer, total) = (call.layer, call.layer.tile_total());
+    let (layer, total) = (call.layer, call.total());
     let (mut output, mut work, mut untouched) = (vec![0; call.output_length], Vec::new(), buffers.clone());
     let [run, direct, none] = shortest([
         &mut || advance(&call, total, &mut buffers),

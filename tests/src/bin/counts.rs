@@ -1,6 +1,7 @@
 //! Instructions of `levels`, `noise`, `join`, `worst_map` and of a job call of no tile, as valgrind counts them: those of a program that makes two
 //! calls less those of one that makes one, and so many for each value or pair of weights. Nothing is asserted of a count.
 
+use wemsteky_tests::engine::Engine;
 use wemsteky_tests::random::Random;
 use wemsteky_tests::{count, engine};
 
@@ -96,7 +97,7 @@ fn job(beyond: Option<usize>, calls: usize) {
     beyond.into_iter().for_each(|place| map[place] = 101);
     let (mut output, mut scratch) = ([0; 1], [0; 3072]);
     for _ in 0..calls {
-        let answer = engine::job(&layer, (0, 0), (&map, &[1; 4]), &mut output, &mut scratch);
+        let answer = Engine::Tiles.job(&layer, (0, 0), (&map, &[1; 4]), &mut output, &mut scratch);
         assert_eq!(answer.number, if beyond.is_some() { 15 } else { 0 });
     }
 }

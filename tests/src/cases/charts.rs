@@ -3,6 +3,7 @@
 use super::rows;
 use crate::call::Call;
 use crate::direct::direct_sums;
+use crate::engine::Engine;
 use crate::layer::{Layer, CONV, TCONV};
 use crate::rules::{job_number, offender, plan_number, BELOW};
 
@@ -17,20 +18,21 @@ fn layer(kind: usize, length: usize, (side, stride, padding): (usize, usize, usi
 
 /// The number of the case, the answer's number and a count of tiles, which is 0 where the number is not.
 fn line(case: usize, layer: &Layer, number: usize) -> String {
-    let tiles = if number == 0 { layer.tile_total() } else { 0 };
+    let tiles = if number == 0 { Engine::Tiles.total(layer) } else { 0 };
     format!("case {case} code {number} tiles {tiles} \n")
 }
 
 /// A whole run.
 fn call(layer: Layer, map: &[i16], kernel: &[i16]) -> Call {
     Call {
+        engine: Engine::Tiles,
         layer,
         next: 0,
         budget: usize::MAX,
         map: map.to_vec(),
         kernel: kernel.to_vec(),
         output_length: layer.output_length() as usize,
-        scratch_length: layer.scratch_words(),
+        scratch_length: Engine::Tiles.scratch_words(&layer),
     }
 }
 
@@ -71,7 +73,7 @@ fn loads() -> String {
 }
 
 fn plans() -> String {
-    let plan = |case, layer| line(case, &layer, plan_number(&layer));
+    let plan = |case, layer| line(case, &layer, plan_number(Engine::Tiles, &layer));
     let none = Layer { rows: 1, columns: 1, ..layer(TCONV, 1, (3, 1, 2), 1) };
     let taller = |layer: Layer| Layer { height: layer.height + 1, ..layer }.uncropped();
     let eleven = layer(CONV, 32, (3, 1, 0), 1);

@@ -4,6 +4,7 @@ use super::{rows, Sequence};
 use crate::call::Call;
 use crate::checked::expected_answer;
 use crate::direct::direct_sums;
+use crate::engine::Engine;
 use crate::layer::{Layer, CONV, TCONV};
 
 /// What the output holds first.
@@ -12,7 +13,7 @@ const LENT: i64 = 7;
 /// The answer to a call and the output that it leaves, with the index that it hands back.
 fn stop(call: &Call, sums: &[i64], output: &mut [i64]) -> (String, usize) {
     let answer = expected_answer(call);
-    for place in call.layer.places(call.next..answer.next) {
+    for place in call.engine.places(&call.layer, call.next..answer.next) {
         output[place] = sums[place];
     }
     let line = format!(
@@ -40,16 +41,17 @@ fn in_budgets(mut call: Call) -> String {
 
 /// A job at tile 0 on drawn values and weights, with one word of scratch more than is asked for.
 fn job(numbers: [usize; 14], weight: i16, seed: u64) -> Call {
-    let layer = Layer::of(numbers);
+    let (engine, layer) = (Engine::Tiles, Layer::of(numbers));
     let mut sequence = Sequence(seed);
     Call {
+        engine,
         layer,
         next: 0,
         budget: 0,
         map: sequence.values(layer.map_length() as usize, layer.peak as i16),
         kernel: sequence.values(layer.kernel_length() as usize, weight),
         output_length: layer.output_length() as usize,
-        scratch_length: layer.scratch_words() + 1,
+        scratch_length: engine.scratch_words(&layer) + 1,
     }
 }
 
