@@ -1,5 +1,5 @@
-/* A transposed convolution planned, with a row and a column added too, run tile by tile, its outputs as levels, and a call that is refused with the
- * map value that it is refused for; a transform there and back; noise; two filters joined; a map to show for a range refusal. */
+/* A transposed convolution planned, with a row and a column added too, run tile by tile and by strips, its outputs as levels, and a call that is
+ * refused with the map value that it is refused for; a transform there and back; noise; two filters joined; a map to show for a range refusal. */
 #include <stdio.h>
 #include <string.h>
 
@@ -30,6 +30,17 @@ static size_t run_in_budgets(const size_t layer[16], const int16_t *kernel, size
                             SCRATCH, figures);
         next = figures[1];
     } while (code == 0 && !figures[2]);
+    return code;
+}
+
+/* Runs the layer by strips and tells whether all outputs are those that the tiles left. */
+static size_t run_by_strips(const size_t layer[16], const int16_t *kernel, size_t kernel_len, int *agree)
+{
+    static int32_t other[CHANNELS * FULL * FULL];
+    static uint64_t rows[WEMSTEKY_STRIP_SCRATCH];
+    size_t figures[7], code = wemsteky_strip_run(layer, map, SIDE * SIDE, kernel, kernel_len, other, sizeof other / sizeof *other, rows,
+                                                 WEMSTEKY_STRIP_SCRATCH, figures);
+    *agree = memcmp(output, other, sizeof output) == 0;
     return code;
 }
 
@@ -93,6 +104,13 @@ int main(void)
     if (code != 0) return failed("job", code);
     printf("next tile %zu, done %zu\n", progress[1], progress[2]);
     printf("first %d, last of channel 0 %d, last %d\n", output[0], output[FULL * FULL - 1], output[CHANNELS * FULL * FULL - 1]);
+
+    code = wemsteky_strip_plan(layer, figures);
+    if (code != 0) return failed("strip plan", code);
+    int agree;
+    code = run_by_strips(layer, kernel, CHANNELS * 16, &agree);
+    if (code != 0) return failed("strip run", code);
+    printf("%zu strips, %zu words of scratch, the same outputs %s\n", figures[2], figures[3], agree ? "yes" : "no");
 
     code = wemsteky_levels(3, 127, output, sizeof output / sizeof *output, levels, sizeof levels / sizeof *levels);
     if (code != 0) return failed("levels", code);

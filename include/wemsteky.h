@@ -45,36 +45,41 @@
  *
  * TILES are counted by output channel, then tile row, then tile column; each covers N - K + 1 rows and columns of the stride-1 grid.
  *
+ * STRIPS are what wemsteky_strip_plan, wemsteky_strip_run and wemsteky_strip_job work in, and tiles are what wemsteky_plan, wemsteky_run and
+ * wemsteky_job work in: two engines for the same sums. A strip is one output row's next 257 - K places of the stride-1 grid; strips are counted by
+ * output channel, then row, then place along the row. Strips take field 4 alone and 768 words of scratch. On a layer that both engines accept, all
+ * outputs agree. A job has no mark of its engine: the caller keeps it to the one that it began with. docs/PERFORMANCE.md says which is quicker.
+ *
  * ANSWERS. Every function takes any numbers, lengths and values. It returns 0, or the number of the first check that fails, in this order; a
  * refused call changes no output, scratch, words, levels, joined kernel or map to be written.
  *
  *   1 kind is not 0 or 1                  11 kernel length is not M C K K
- *   2 field is not 4 or 5                 12 output length is not M h w
- *   3 C or M outside 1 to 64              13 scratch is below 3 N N words
- *   4 H or W outside 1 to 512             14 peak outside 1 to 32,767
- *   5 K outside 1 to 11                   15 the first map value beyond the peak is above it
- *   6 S outside 1 to 4                    25 the first map value beyond the peak is below its negative
- *   7 P above K - 1                       24 some output channel is blank: every weight that reaches it is 0
- *  23 below or beside above S - 1, or     16 some output channel's load above the limit
- *     not 0 in CONV                       17 the index of the next tile above the total
- *   8 the full output has no row or no    18 not N words to transform
- *     column                              19 a word not below the field
- *   9 the crop is empty or reaches        20 the shift outside 0 to 31, the bound outside 1 to 32,767, or not as many levels as outputs
- *     beyond the full output              26 a layer to join not CONV with S 1 and P 0, its C, M or K outside the ranges, a kernel length, that of
- *  10 map length is not C H W                the joined one too, not as the figures say, or the first layer's M not the second's C
- *                                         27 the joined side above 11
+ *   2 field is not 4 or 5; by strips,     12 output length is not M h w
+ *     not 4                               13 scratch is below 3 N N words; by strips, below 768
+ *   3 C or M outside 1 to 64              14 peak outside 1 to 32,767
+ *   4 H or W outside 1 to 512             15 the first map value beyond the peak is above it
+ *   5 K outside 1 to 11                   25 the first map value beyond the peak is below its negative
+ *   6 S outside 1 to 4                    24 some output channel is blank: every weight that reaches it is 0
+ *   7 P above K - 1                       16 some output channel's load above the limit
+ *  23 below or beside above S - 1, or     17 the index of the next tile or strip above the total
+ *     not 0 in CONV                       18 not N words to transform
+ *   8 the full output has no row or no    19 a word not below the field
+ *     column                              20 the shift outside 0 to 31, the bound outside 1 to 32,767, or not as many levels as outputs
+ *   9 the crop is empty or reaches        26 a layer to join not CONV with S 1 and P 0, its C, M or K outside the ranges, a kernel length, that of
+ *     beyond the full output                 the joined one too, not as the figures say, or the first layer's M not the second's C
+ *  10 map length is not C H W             27 the joined side above 11
  *                                         28 some joined weight not within 16 signed bits
  *                                         29 the layer is TCONV, or no cropped output has its whole window inside the map
  *
- * With 15 and 25, wemsteky_run and wemsteky_job tell which value it is: the first one beyond the peak in stored order, that is by channel, then row,
+ * With 15 and 25, runs and jobs tell which value it is: the first one beyond the peak in stored order, that is by channel, then row,
  * then column, each counted from 0, and its side, 1 above the peak, 2 below its negative. -32,768 is below the negative of every peak.
  *
  * WHAT THE CALLER KEEPS, which nothing checks: each pointer points to as many elements as its length says, also where that is 0, so no pointer is
  * null; a buffer that a call writes (output, scratch, figures, words, levels, map of wemsteky_noise and of wemsteky_worst_map, joined) overlaps no
  * other buffer of the call; nobody else writes a buffer of a call while it runs. size_t has 64 bits.
  *
- * The functions allocate nothing, have no globals and hold no locks: any number of calls may run at once on buffers of their own. Runs used 2,896
- * bytes of stack when that was measured, a job call 2,624, the others less (tests/stack.c prints it).
+ * The functions allocate nothing, have no globals and hold no locks: any number of calls may run at once on buffers of their own. Runs used 4,832
+ * bytes of stack when that was measured, a job call 4,624, the others less (tests/stack.c prints it).
  */
 #ifndef WEMSTEKY_H
 #define WEMSTEKY_H
@@ -82,11 +87,14 @@
 #include <stddef.h>
 #include <stdint.h>
 
-#define WEMSTEKY_VERSION 0x000500 /* major, minor and patch, a byte each */
+#define WEMSTEKY_VERSION 0x000600 /* major, minor and patch, a byte each */
 
 /* The words of scratch, 3 N N, in field 4 and in field 5. Scratch may be longer. */
 #define WEMSTEKY_SCRATCH_4 3072
 #define WEMSTEKY_SCRATCH_5 12288
+
+/* The words of scratch by strips. */
+#define WEMSTEKY_STRIP_SCRATCH 768
 
 /* The words of a transform, N, in field 4 and in field 5. */
 #define WEMSTEKY_N_4 32
@@ -120,6 +128,14 @@ WEMSTEKY_MUST_USE size_t wemsteky_run(const size_t layer[16], const int16_t *map
 WEMSTEKY_MUST_USE size_t wemsteky_job(const size_t layer[16], size_t next, size_t budget, const int16_t *map, size_t map_len,
                                       const int16_t *kernel, size_t kernel_len, int32_t *output, size_t output_len, uint64_t *scratch,
                                       size_t scratch_len, size_t figures[7]);
+
+/* The same by strips: the figures count strips, the plan's last one is 768, and the first 768 words of scratch are used and left zero. */
+WEMSTEKY_MUST_USE size_t wemsteky_strip_plan(const size_t layer[16], size_t figures[4]);
+WEMSTEKY_MUST_USE size_t wemsteky_strip_run(const size_t layer[16], const int16_t *map, size_t map_len, const int16_t *kernel, size_t kernel_len,
+                                            int32_t *output, size_t output_len, uint64_t *scratch, size_t scratch_len, size_t figures[7]);
+WEMSTEKY_MUST_USE size_t wemsteky_strip_job(const size_t layer[16], size_t next, size_t budget, const int16_t *map, size_t map_len,
+                                            const int16_t *kernel, size_t kernel_len, int32_t *output, size_t output_len, uint64_t *scratch,
+                                            size_t scratch_len, size_t figures[7]);
 
 /* Checks 2, 18 and 19, then the transform of N residues at the root 2: entry k is the sum over n of words[n] times 2 to the power nk, modulo the
  * field. The inverse undoes it. */
