@@ -48,7 +48,7 @@
  * STRIPS are what wemsteky_strip_plan, wemsteky_strip_run and wemsteky_strip_job work in, and tiles are what wemsteky_plan, wemsteky_run and
  * wemsteky_job work in: two engines for the same sums. A strip is one output row's next 257 - K places of the stride-1 grid; strips are counted by
  * output channel, then row, then place along the row. Strips take field 4 alone and 768 words of scratch. On a layer that both engines accept, all
- * outputs agree. A job has no mark of its engine: the caller keeps it to the one that it began with. docs/PERFORMANCE.md says which is quicker.
+ * outputs agree. A job has no mark of its engine: the caller keeps it to the one that it began with. docs/PERFORMANCE.md has instruction counts of both.
  *
  * ANSWERS. Every function takes any numbers, lengths and values. It returns 0, or the number of the first check that fails, in this order; a
  * refused call changes no output, scratch, words, levels, joined kernel or map to be written.

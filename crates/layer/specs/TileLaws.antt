@@ -1,18 +1,17 @@
 -- Laws of tiles: every output place lies in one tile below the total, which its square tells, and every tile below the total holds an
 -- output place. They rest on the definitions of Shape and on the sizes of a planned layer.
-use mathlib.Core.Path.{_≡_, refl, sym, ap, ap₂, _∙_, subst}
-use mathlib.Core.Bool.{Bool, true, false, cond}
+use mathlib.Core.Path.{_≡_, sym, ap, ap₂, _∙_}
 use Prim.Native.Nat.{ℕ, zero, suc, _+_, _*_, _-_, _/_, _%_, _<_, _≤_}
-use native.Mathlib.Nat.{div-lt-iff-lt-mul, div-add-mod', mod-lt, lt-div-mul-add, div-mul-le-self, mul-le-mul-right, suc-mul}
+use native.Mathlib.Nat.{div-lt-iff-lt-mul, div-add-mod', mod-lt}
 use native.Mathlib.Omega.{arith}
 use lib.Arith.{digits-lt, digits-div, digits-mod}
-use Rattle.base.specs.NumberLaws.{ceiling-lt, ceiling-starts, quotient-low, quotient-high, quotient-is}
+use Rattle.base.specs.NumberLaws.{quotient-low, quotient-high, quotient-is}
 use Rattle.base.specs.Number.{ceilingDiv}
-use Rattle.layer.specs.Planned.{InRange, Planned}
+use Rattle.layer.specs.Planned.{Planned}
 use Rattle.layer.specs.declared.shape.Layer.{Layer}
 use Rattle.layer.specs.TileSizeLaws.{tile-side-low}
 use Rattle.layer.specs.PartLaws.{Held, step-range, wanted-lt, part-some, part-held}
-use Rattle.layer.specs.Shape.{isConv, tileSide, gridStep, span, tileRows, tileColumns, tileTotal, channelOf, rowOf, columnOf, tileOf, tileChannel, tileRow, tileColumn}
+use Rattle.layer.specs.Shape.{tileSide, gridStep, span, tileRows, tileColumns, tileTotal, channelOf, rowOf, columnOf, tileOf, tileChannel, tileRow, tileColumn}
 
 -- ---- on the output of a layer
 

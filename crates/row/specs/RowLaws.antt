@@ -10,7 +10,7 @@ use Rattle.algebra.specs.Congruence.{Cong}
 use Rattle.algebra.specs.CongruenceLaws.{c-eq, c-sym, _⨟_, c-via, c-add, c-mul}
 use Rattle.fermat.specs.Field.{modulus}
 use Rattle.fermat.specs.Transform.{powerSum, transformAt, inverseAt, circular}
-use Rattle.fermat.specs.TransformLaws.{c-power-sum, power-sum-zero, power-sum-add, undo, redo}
+use Rattle.fermat.specs.TransformLaws.{power-sum-zero, power-sum-add, undo, redo}
 use Rattle.fermat.specs.ConvolutionLaws.{circular-power-sum}
 use Rattle.spectrum.specs.Product.{Accumulated}
 use Rattle.row.specs.Powers.{rowRoot}

@@ -48,7 +48,7 @@ module _ (l : Layer) (map kernel : List ℤ) (s : StripOrigin) where
     pub changed : Changed 0 256 768 xs zs
 
   pub rows-ready : {c a a₁ k₁ a₂ k₂ : ℕ} {xs ks ws : List ℕ} → StripOriginInRange l s → Lending 256 a₁ k₁ a₂ k₂ xs ks ws
-      → WeightsReady l kernel (planeOf l (s .channel) c) a 0 ks → LineReady l (s .shown) map c (s .row + (l .side - 1 - a)) 0 ws
+      → WeightsReady l kernel (planeOf l (s .channel) c) a ks → LineReady l (s .shown) map c (s .row + (l .side - 1 - a)) ws
       → RowsReady c a xs (putMid a₂ k₂ (putMid a₁ k₁ xs ks) ws)
   rows-ready {c} {a} range p weights line = record {
     weight = weights .words;
@@ -60,7 +60,7 @@ module _ (l : Layer) (map kernel : List ℤ) (s : StripOrigin) where
         subst (λ (z : ℤ). Represents (modulus (l .field)) z (line .words v))
         (line-window l map c (s .row) (s .column) 256 (s .shown) (range .shows) 0 (l .side - 1 - a) v h) (rw (zero-add v) (line .value v h));
     window-spectrum = row-moved (line .spectrum) (λ i h. rw (zero-add i) (c-eq (window-word p i h)));
-    bound = lent-most p (λ i h. rw (zero-add i) at (weights .bound i h)) (λ i h. rw (zero-add i) at (line .bound i h));
+    bound = lent-most p (weights .bound) (line .bound);
     room = omega (arith, lent-changed p .same-length, p .room);
     changed = lent-changed p;
   }

@@ -2,7 +2,6 @@
 use mathlib.Core.Path.{_≡_}
 use mathlib.Core.List.{List}
 use Prim.Native.Nat.{ℕ, _+_, _*_}
-use native.Mathlib.Nat.{zero-add}
 use native.Mathlib.Omega.{arith}
 use lib.IntN.{ℤ}
 use lib.ListN.{length, getD}
@@ -33,12 +32,12 @@ module _ (l : Layer) (field : l .field ≡ 4) {ys : List ℕ} (size : length ys 
 
   pub line-ready : {s : Shown} {map : List ℤ} {channel line : ℕ} {xs zs : List ℕ}
       → Loaded (modulus (l .field)) (Run 0 256) (λ p. lineAt l s map channel line 0 p) xs ys
-      → length zs ≡ 256 → RowSpectrum (λ i. getD ys i 0) 0 zs → AtMost (factorMost 4) zs → LineReady l s map channel line 0 zs
+      → length zs ≡ 256 → RowSpectrum (λ i. getD ys i 0) 0 zs → AtMost (factorMost 4) zs → LineReady l s map channel line zs
   line-ready loaded long spectrum most = record {
     words = λ i. getD ys i 0;
     value = λ v h. loaded .here v (omega (arith, loaded .same-length)) (omega arith, omega arith) .value;
     spectrum = spectrum;
-    bound = λ i h. rw (zero-add i) (most i (omega arith));
+    bound = λ i h. most i (omega arith);
   }
 
   -- ---- a row of the kernel
@@ -53,11 +52,11 @@ module _ (l : Layer) (field : l .field ≡ 4) {ys : List ℕ} (size : length ys 
 
   pub weights-ready : {kernel : List ℤ} {plane a from : ℕ} {zs : List ℕ} → from ≡ (plane * l .side + turnedIndex l a) * l .side
       → HoldsWeights l kernel from (l .side) ys → length zs ≡ 256 → RowSpectrum (λ i. getD ys i 0) 0 zs → AtMost (factorMost 4) zs
-      → WeightsReady l kernel plane a 0 zs
+      → WeightsReady l kernel plane a zs
   weights-ready e holds long spectrum most = record {
     words = λ i. getD ys i 0;
     value = λ b h. rw e at (holds .value b h);
     empty = λ b h. holds .empty b h;
     spectrum = spectrum;
-    bound = λ i h. rw (zero-add i) (most i (omega arith));
+    bound = λ i h. most i (omega arith);
   }

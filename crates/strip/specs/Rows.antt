@@ -22,20 +22,20 @@ use Rattle.strip.specs.declared.origin.StripOrigin.{StripOrigin}
 
 -- ---- the two rows
 
--- the 256 words from `at` on are the transform of words for row a of a plane of the kernel
-pub record WeightsReady (l : Layer) (kernel : List ℤ) (plane a at : ℕ) (ys : List ℕ) : Type 0 where
+-- the 256 words of ys are the transform of words for row a of a plane of the kernel
+pub record WeightsReady (l : Layer) (kernel : List ℤ) (plane a : ℕ) (ys : List ℕ) : Type 0 where
   pub words : ℕ → ℕ
   pub value : (b : ℕ) → b < l .side → Represents (modulus (l .field)) (weightAt l kernel plane a b) (words b)
   pub empty : (b : ℕ) → l .side ≤ b → words b ≡ 0
-  pub spectrum : RowSpectrum words at ys
-  pub bound : (i : ℕ) → i < 256 → getD ys (at + i) 0 ≤ factorMost 4
+  pub spectrum : RowSpectrum words 0 ys
+  pub bound : (i : ℕ) → i < 256 → getD ys i 0 ≤ factorMost 4
 
 -- they are the transform of words for what is shown of a map channel in the grid row `line`
-pub record LineReady (l : Layer) (s : Shown) (map : List ℤ) (channel line at : ℕ) (ys : List ℕ) : Type 0 where
+pub record LineReady (l : Layer) (s : Shown) (map : List ℤ) (channel line : ℕ) (ys : List ℕ) : Type 0 where
   pub words : ℕ → ℕ
   pub value : (v : ℕ) → v < 256 → Represents (modulus (l .field)) (lineAt l s map channel line 0 v) (words v)
-  pub spectrum : RowSpectrum words at ys
-  pub bound : (i : ℕ) → i < 256 → getD ys (at + i) 0 ≤ factorMost 4
+  pub spectrum : RowSpectrum words 0 ys
+  pub bound : (i : ℕ) → i < 256 → getD ys i 0 ≤ factorMost 4
 
 -- ---- the sum
 

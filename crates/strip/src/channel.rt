@@ -44,7 +44,7 @@ fn weights_spectrum(
 )
     requires { ⌜ InRange layer × (layer .field ≡ 4) × (length (now words) ≡ 256) × (a < layer .side) × RootPowers (now powers) ⌝ }
     requires { ⌜ (length (now kernel) ≡ layer .outputs * layer .inputs * (layer .side * layer .side)) × (plane < layer .outputs * layer .inputs) ⌝ }
-    ensures { λ _. ⌜ WeightsReady layer (now (kernel .entry)) plane a 0 (now (words .exit)) ⌝ }
+    ensures { λ _. ⌜ WeightsReady layer (now (kernel .entry)) plane a (now (words .exit)) ⌝ }
 {
     let from = (plane * layer.side + stored_row(layer, a)) * layer.side;
     load_weights(words, layer, kernel, from, layer.side);
@@ -63,7 +63,7 @@ fn line_spectrum(
 )
     requires { ⌜ InRange layer × (layer .field ≡ 4) × (length (now words) ≡ 256) × Fitting layer 256 shown × RootPowers (now powers) ⌝ }
     requires { ⌜ (length (now map) ≡ layer .inputs * layer .height * layer .width) × (channel < layer .inputs) ⌝ }
-    ensures { λ _. ⌜ LineReady layer shown (now (map .entry)) channel line 0 (now (words .exit)) ⌝ }
+    ensures { λ _. ⌜ LineReady layer shown (now (map .entry)) channel line (now (words .exit)) ⌝ }
 {
     load_line(words, 0, 256, layer, shown, map, channel, line);
     row_spectrum(words, 16, powers);

@@ -5,7 +5,7 @@ use Rattle.layer.proofs.strips.strip_length.Statement.{statement}
 use Rattle.layer.proofs.strips.strip_length.Tie as tie
 
 sub-result : tie.Need-sub-result
-sub-result c = omega (arith, c .before .pre .side-high)
+sub-result c = let s : tie.Start = search in omega (arith, s .pre .side-high)
 
 returns : tie.Need-returns
 returns c = refl
