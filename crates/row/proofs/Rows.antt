@@ -3,12 +3,12 @@
 use mathlib.Core.Path.{_≡_, refl, sym, ap, _∙_, subst}
 use mathlib.Core.List.{List}
 use Prim.Native.Nat.{ℕ, _+_, _*_, _/_, _%_, _^_, _<_, _≤_}
-use native.Mathlib.Nat.{mul-comm}
+use native.Mathlib.Nat.{mul-comm, mod-eq-of-lt}
 use native.Mathlib.Omega.{arith}
 use lib.ListN.{length, getD}
 use Rattle.algebra.specs.PowerLaws.{pow-mul}
 use Rattle.algebra.specs.Congruence.{Cong}
-use Rattle.algebra.specs.CongruenceLaws.{c-refl, c-sym, _⨟_, c-via, c-add, c-mul, c-pow}
+use Rattle.algebra.specs.CongruenceLaws.{c-refl, c-sym, _⨟_, c-via, c-add, c-mul, c-pow, c-multiple}
 use Rattle.fermat.specs.LengthLaws.{product-length, other-root}
 use Rattle.fermat.specs.Transform.{powerSum}
 use Rattle.fermat.specs.TransformLaws.{c-power-sum, c-undo}
@@ -20,10 +20,13 @@ use Rattle.passes.specs.Passes.{passes, Grid}
 use Rattle.passes.specs.PassLaws.{passes-power}
 use Rattle.passes.specs.WordLaws.{bound-times}
 use Rattle.passes.specs.GridLaws.{grid, row-bound}
+use Rattle.fermat.specs.Field.{modulus}
+use Rattle.spectrum.specs.Value.{offsetOf}
+use Rattle.spectrum.specs.Product.{OffsetResidue}
 use Rattle.row.specs.Powers.{rowRoot}
 use Rattle.row.specs.PowersLaws.{row-root, root-one}
 use Rattle.row.specs.FrequencyLaws.{other-order}
-use Rattle.row.specs.Row.{frequencyOf, Twisted, RowSpectrum, rowResidue, RowRecovered}
+use Rattle.row.specs.Row.{frequencyOf, Twisted, RowSpectrum, RowRecovered}
 
 -- ---- numbers
 
@@ -45,6 +48,19 @@ pub rows-most : {c : ℕ} (ys : List ℕ) → length ys ≡ 256 → ((r j : ℕ)
 rows-most {c} ys size most i l =
     let e : i / 16 * 16 + i % 16 ≡ i = omega arith in
     subst (λ (p : ℕ). getD ys p 0 ≤ c) e (most (i / 16) (i % 16) (omega arith) (omega arith))
+
+-- ---- the residues
+
+-- a word v that the inverse leaves, as a residue: v / 256 and the offset. 65,281 is 1 / 256
+abbrev pub rowResidue : ℕ → ℕ
+rowResidue v = (65281 * v + offsetOf 4) % modulus 4
+
+-- 1 / 256 is −256, the power of 2 that `offset_residues` takes away
+pub row-residue : {v z : ℕ} → OffsetResidue 16 8 v z → z ≡ rowResidue v
+row-residue {v} {z} f =
+    let same : Cong 65537 z (65281 * v + 32768) =
+    c-sym (c-multiple z v) ⨟ c-via (omega arith) (c-add (f .value) (c-refl {a = 65281 * v})) (omega arith) in
+    sym (mod-eq-of-lt (f .below)) ∙ same .same
 
 -- ---- the roots of 16 words, by computation
 

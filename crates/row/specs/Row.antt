@@ -37,10 +37,6 @@ pub record RowSpectrum (x : ℕ → ℕ) (at : ℕ) (ys : List ℕ) : Type 0 whe
   pub entry : (l k : ℕ) → l < 16 → k < 16
       → Cong (modulus 4) (getD ys (at + (l * 16 + k)) 0) (powerSum 256 rowRoot x (frequencyOf k + 16 * frequencyOf l))
 
--- a word v that the inverse leaves, as a residue: v / 256 and the offset. 65,281 is 1 / 256
-abbrev pub rowResidue : ℕ → ℕ
-rowResidue v = (65281 * v + offsetOf 4) % modulus 4
-
 -- xs holds the transform of x; then ys holds x as residues, with the offset added
 abbrev pub RowRecovered : List ℕ → List ℕ → Type 0
 RowRecovered xs ys = (x : ℕ → ℕ) → RowSpectrum x 0 xs → (n : ℕ) → n < 256 → getD ys n 0 ≡ (x n + offsetOf 4) % modulus 4

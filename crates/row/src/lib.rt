@@ -2,36 +2,25 @@
 // word times a power of the root, rows and columns in each other's place, and a transform of each column again. The transforms of 16 words are those
 // of `passes` at the root 4. That is the root to the power 16 · 11, so that the frequency k at the root 4 is 11 k at the root to the power 16.
 // The words are brought down and become residues as in `spectrum`. 131,074 is twice the modulus, which bounds the words that are lent; 262,148 is
-// four times the modulus, which bounds those that are brought down.
+// four times the modulus, which bounds those that are brought down. The length is 2^8.
 ghost use mathlib.Core.Path.{_≡_};
-ghost use Prim.Native.Nat.{ℕ, _*_, _<_};
+ghost use Prim.Native.Nat.{_*_};
 ghost use lib.ListN.{length, getD};
 ghost use Rattle.fermat.specs.Field.{modulus};
 ghost use Rattle.passes.specs.Butterfly.{AtMost};
 ghost use Rattle.passes.specs.Halving.{Filled};
 ghost use Rattle.spectrum.specs.Product.{factorMost, settledMost};
 ghost use Rattle.row.specs.Powers.{RootPowers};
-ghost use Rattle.row.specs.Row.{RowSpectrum, RowRecovered, rowResidue};
+ghost use Rattle.row.specs.Row.{RowSpectrum, RowRecovered};
 use passes::forward;
 use passes::inverse;
 use passes::order::transpose;
-use spectrum::product::offset_residue;
+use spectrum::product::offset_residues;
+use spectrum::value::offset_of;
 use twist::twist;
 
 pub mod table;
 mod twist;
-
-// Each word that the inverse leaves as a residue, with the offset 32,768 added. The length is 2^8.
-fn row_residues(words: &mut [u64])
-    requires { ⌜ AtMost (256 * settledMost 4) (now words) ⌝ }
-    ensures { λ _. ⌜ ((i : ℕ) → i < length (now (words .entry)) → getD (now (words .exit)) i 0 ≡ rowResidue (getD (now (words .entry)) i 0)) ⌝ }
-{
-    let mut i = 0;
-    while i < words.len() {
-        words[i] = offset_residue(words[i], 16, 8, 32768);
-        i += 1;
-    }
-}
 
 // The transform of 256 words of which the rows of 16 from `filled` on are 0.
 pub fn row_spectrum(words: &mut [u64], filled: usize, powers: &[u64; 256])
@@ -55,5 +44,5 @@ pub fn recover_row(words: &mut [u64], powers: &[u64; 256])
     transpose(words, 16);
     twist(words, 255, powers);
     inverse(words, 16, 16, 2, 16, 262148);
-    row_residues(words);
+    offset_residues(words, 16, 8, offset_of(4));
 }

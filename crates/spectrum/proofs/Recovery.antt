@@ -1,4 +1,4 @@
--- From the transform of a tile back to the tile: the inverse undoes the transform but for the factor N², and `finish` takes that away.
+-- From the transform of a tile back to the tile: the inverse undoes the transform but for the factor N², and the residues take that away.
 use mathlib.Core.Path.{_≡_, refl, sym, ap, _∙_}
 use mathlib.Core.List.{List}
 use Prim.Native.Nat.{ℕ, suc, _+_, _-_, _*_, _^_, _≤_, _<_}
@@ -19,9 +19,10 @@ use Rattle.passes.specs.Butterfly.{Bound, AtMost}
 use Rattle.passes.specs.Halving.{word}
 use Rattle.passes.specs.OrderLaws.{place-lt}
 use Rattle.spectrum.specs.Tile.{TileForward, TileInverse, Square, Spectrum, Recovered}
-use Rattle.spectrum.specs.Product.{settledMost, Settled, inverseMost, offsetResidue}
+use Rattle.spectrum.specs.Product.{settledMost, Settled, inverseMost, Reducible, OffsetResidue}
 use Rattle.spectrum.specs.SpectrumLaws.{spectrum-moved}
 use Rattle.spectrum.proofs.Sizes.{tile-bound, tile-square}
+use Rattle.spectrum.proofs.OffsetResidues.{field-reducible, field-residue}
 
 -- s is 1/N
 tile-undone : {m w v s t l n : ℕ} {z : ℕ → ℕ → ℕ} {xs : List ℕ} (ys : List ℕ) → Root m w v s t → l ≡ suc t
@@ -51,16 +52,20 @@ module _ {t n l b m : ℕ} (is : Numbers t n l b m) where
       → Bound b (4 * m) × (Square (length xs) n l b (4 * m) × AtMost (4 * m) xs)
   inverse-asks xs high size most = rw (is .side, is .halvings, is .bits, is .field) (tile-bound t high, (tile-square t high size (omega arith), most))
 
-  -- what `finish` asks
-  pub inverse-most : (ys : List ℕ) → AtMost (4 * m * 2 ^ l * 2 ^ l) ys → AtMost (inverseMost t) ys
-  inverse-most ys most = rw (is .halvings, is .field) at most
+  -- what the residues ask
+  pub inverse-reducible : (ys : List ℕ) → 4 ≤ t → t ≤ 5 → AtMost (4 * m * 2 ^ l * 2 ^ l) ys
+      → (i : ℕ) → i < length ys → Reducible b (2 * l) (getD ys i 0)
+  inverse-reducible ys low high most i h =
+      let small : AtMost (inverseMost t) ys = rw (is .halvings, is .field) at most in
+      rw (is .halvings, is .bits) (field-reducible t low high _ (small i h))
 
-  -- words brought down, then inverted, then finished
-  pub recovered : (xs ss ys zs : List ℕ) → length xs ≡ transformLength t * transformLength t → length ys ≡ length xs
+  -- words brought down, then inverted, then residues
+  pub recovered : (xs ss ys zs : List ℕ) → 4 ≤ t → t ≤ 5 → length xs ≡ transformLength t * transformLength t → length ys ≡ length xs
       → ((i : ℕ) → i < length xs → Settled t (getD xs i 0) (getD ss i 0)) → TileInverse (2 ^ b + 1) (2 ^ (b - 1) + 1) l n ss ys
-      → ((i : ℕ) → i < length ys → getD zs i 0 ≡ offsetResidue t (getD ys i 0)) → Recovered t xs zs
-  recovered xs ss ys zs size same settled inverse finished z forward r j lr lj =
-      finished (r * transformLength t + j) (omega (arith, place-lt r j lr lj))
+      → ((i : ℕ) → i < length ys → OffsetResidue b (2 * l) (getD ys i 0) (getD zs i 0)) → Recovered t xs zs
+  recovered xs ss ys zs low high size same settled inverse residues z forward r j lr lj =
+      field-residue t low high _ _
+      (rw (is .halvings, is .bits) at (residues (r * transformLength t + j) (omega (arith, place-lt r j lr lj))))
       ∙ c-add (tile-undone ys (field-root t) (add-one t) down (rw (is .side, is .halvings, is .bits) at inverse) r j lr lj) c-refl .same
     where
       down : Spectrum t z 0 ss

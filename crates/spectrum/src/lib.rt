@@ -17,6 +17,7 @@ use product::offset_residues;
 use product::settle;
 use tile::forward_tile;
 use tile::inverse_tile;
+use value::offset_of;
 
 mod corner;
 pub mod product;
@@ -59,5 +60,5 @@ pub fn recover_tile(words: &mut [u64], field: usize)
     let bound = 4 * modulus_of(field);
     settle(words, field);
     inverse_tile(words, n, halvings, bits, bound);
-    offset_residues(words, field);
+    offset_residues(words, bits, 2 * halvings, offset_of(field));
 }

@@ -3,10 +3,7 @@
 ghost use mathlib.Core.Path.{_≡_};
 ghost use Prim.Native.Nat.{ℕ, _+_, _-_, _*_, _/_, _%_, _^_, _<_, _≤_};
 ghost use lib.ListN.{length, getD};
-ghost use Rattle.spectrum.specs.Product.{factorMost, Product, Settled, Accumulated, Reducible, OffsetResidue, offsetResidue, inverseMost};
-use crate::value::offset_of;
-use fermat::field::bits_of;
-use fermat::field::halvings_of;
+ghost use Rattle.spectrum.specs.Product.{factorMost, Product, Settled, Accumulated, Reducible, OffsetResidue};
 
 // The product of two words of F_4 fits a word. The remainders change nothing; they tell the compiler that the halves above are 0.
 pub fn product_4(a: u64, c: u64) -> u64
@@ -96,7 +93,7 @@ pub fn settle(words: &mut [u64], field: usize)
 
 // A word v that an inverse leaves, as a residue: v / 2^rest and the offset, modulo 2^bits + 1. 2^rest is N² for a tile, and 1 / 2^rest is
 // -2^(bits - rest). The offset is added so that the signed reading takes it away again, without a branch.
-pub fn offset_residue(v: u64, bits: u32, rest: u32, offset: u64) -> u64
+fn offset_residue(v: u64, bits: u32, rest: u32, offset: u64) -> u64
     requires { ⌜ Reducible bits rest v × (offset ≡ 2 ^ bits / 2) ⌝ }
     ensures { λ r. ⌜ OffsetResidue bits rest v r ⌝ }
 {
@@ -108,15 +105,11 @@ pub fn offset_residue(v: u64, bits: u32, rest: u32, offset: u64) -> u64
     q - over * (top + 1)
 }
 
-// Each word that the inverse of a tile leaves as a residue, with the offset added.
-pub(crate) fn offset_residues(words: &mut [u64], field: usize)
-    requires { ⌜ (4 ≤ field) × (field ≤ 5) ⌝ }
-    requires { ⌜ ((i : ℕ) → i < length (now words) → getD (now words) i 0 ≤ inverseMost field) ⌝ }
-    ensures { λ _. ⌜ ((i : ℕ) → i < length (now (words .entry)) → getD (now (words .exit)) i 0 ≡ offsetResidue field (getD (now (words .entry)) i 0)) ⌝ }
+// Each word that an inverse leaves as a residue, with the offset added.
+pub fn offset_residues(words: &mut [u64], bits: u32, rest: u32, offset: u64)
+    requires { ⌜ (offset ≡ 2 ^ bits / 2) × ((i : ℕ) → i < length (now words) → Reducible bits rest (getD (now words) i 0)) ⌝ }
+    ensures { λ _. ⌜ ((i : ℕ) → i < length (now (words .entry)) → OffsetResidue bits rest (getD (now (words .entry)) i 0) (getD (now (words .exit)) i 0)) ⌝ }
 {
-    let bits = bits_of(field);
-    let rest = 2 * halvings_of(field);
-    let offset = offset_of(field);
     let mut i = 0;
     while i < words.len() {
         words[i] = offset_residue(words[i], bits, rest, offset);

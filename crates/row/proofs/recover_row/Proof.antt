@@ -8,7 +8,7 @@ use Rattle.passes.specs.Butterfly.{AtMost}
 use Rattle.passes.specs.Order.{across}
 use Rattle.passes.specs.OrderLaws.{across-lt, permuted-most}
 use Rattle.spectrum.specs.Product.{settledMost}
-use Rattle.row.proofs.Rows.{bound-4, passes-16, column-grid, rows-most, row-inverse}
+use Rattle.row.proofs.Rows.{bound-4, passes-16, column-grid, rows-most, row-residue, row-inverse}
 use borrow.Author.Needs.{needs}
 use Rattle.row.proofs.recover_row.Statement.{statement}
 use Rattle.row.proofs.recover_row.Tie as tie
@@ -50,8 +50,13 @@ inverse-requires-2 c κs =
     let size : length (w .twist .last .0) ≡ 256 = w .twist .kept .0 ∙ turned-length t in
     (bound-4, (column-grid 262148 (omega arith) size, rows-most (w .twist .last .0) size (λ r j lr lj. w .twist .ensures r j lr lj .bound)))
 
-row-residues-requires : tie.Need-row-residues-requires
-row-residues-requires c κs i l = omega (arith, (rw passes-16 at (c .before .before .before .inverse2 .ensures .1)) i l)
+offset-of-requires : tie.Need-offset-of-requires
+offset-of-requires c κs = search needs
+
+offset-residues-requires : tie.Need-offset-residues-requires
+offset-residues-requires c κs =
+    let most = rw passes-16 at (c .before .before .before .before .inverse2 .ensures .1) in
+    (c .offset-of .ensures, λ i l. record { bits-low = omega arith; bits-high = omega arith; rest = omega arith; bound = omega (arith, most i l) })
 
 same-length : tie.Need-same-length
 same-length c = search needs
@@ -59,14 +64,14 @@ same-length c = search needs
 returns : tie.Need-returns
 returns c =
     let fin = c .before .before in
-    let last = fin .before .before .before .before in
+    let last = fin .before .before .before .before .before in
     let w = last .before .before .before .before in
     let t = w .before .before .before .before in
     let s = start t in
     let size : length (last .inverse2 .last .0) ≡ 256 = last .inverse2 .kept .0 ∙ w .twist .kept .0 ∙ turned-length t in
     row-inverse (now (s .args .words)) (first t .inverse .last .0) (t .transpose .last .0) (w .twist .last .0) (last .inverse2 .last .0)
-    (fin .row-residues .last .0) (columns-length t) (rw passes-16 at (first t .inverse .ensures .0)) (t .transpose .ensures)
-    (w .twist .ensures) (rw passes-16 at (last .inverse2 .ensures .0)) (λ i l. fin .row-residues .ensures i (omega (arith, size)))
+    (fin .offset-residues .last .0) (columns-length t) (rw passes-16 at (first t .inverse .ensures .0)) (t .transpose .ensures)
+    (w .twist .ensures) (rw passes-16 at (last .inverse2 .ensures .0)) (λ i l. row-residue (fin .offset-residues .ensures i (omega (arith, size))))
 
 pub recover-row-spec : {M : Type 1} → statement M
 recover-row-spec =
@@ -76,6 +81,7 @@ recover-row-spec =
     transpose-requires
     twist-requires
     inverse-requires-2
-    row-residues-requires
+    offset-of-requires
+    offset-residues-requires
     same-length
     returns)

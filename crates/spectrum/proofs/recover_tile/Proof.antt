@@ -1,9 +1,10 @@
 -- The words are brought down, inverted and finished. Recovery has what each step asks and the law that joins them.
-use mathlib.Core.Path.{_∙_}
+use mathlib.Core.Path.{sym, ap, _∙_}
+use Prim.Native.Nat.{ℕ, _/_, _^_}
 use native.Mathlib.Omega.{arith}
 use borrow.Author.Needs.{needs}
 use Rattle.fermat.specs.FieldSizeLaws.{power-high}
-use Rattle.spectrum.proofs.Recovery.{Numbers, inverse-asks, inverse-most, recovered}
+use Rattle.spectrum.proofs.Recovery.{Numbers, inverse-asks, inverse-reducible, recovered}
 use Rattle.spectrum.proofs.recover_tile.Statement.{statement}
 use Rattle.spectrum.proofs.recover_tile.Tie as tie
 
@@ -53,11 +54,20 @@ inverse-tile-requires c κs =
     inverse-asks (numbers field) (down .settle .last .0) (start field .pre .1) (down .settle .kept .0 ∙ start field .pre .2)
     (λ i l. down .settle .ensures i (omega (arith, down .settle .kept .0)) .bound)
 
+mul-offset-residues : tie.Need-mul-offset-residues
+mul-offset-residues c = search needs
+
+offset-of-requires : tie.Need-offset-of-requires
+offset-of-requires c κs = search needs
+
 offset-residues-requires : tie.Need-offset-residues-requires
 offset-residues-requires c κs =
-    let inverted = c .before .before .before in
+    let inverted = c .before .before .before .before in
     let field = down inverted .before .before in
-    ((start field .pre .0, start field .pre .1), inverse-most (numbers field) (inverted .inverse-tile .last .0) (inverted .inverse-tile .ensures .1))
+    let s = start field in (
+      c .offset-of .ensures ∙ ap (λ (b : ℕ). 2 ^ b / 2) (sym (numbers field .bits)),
+      inverse-reducible (numbers field) (inverted .inverse-tile .last .0) (s .pre .0) (s .pre .1) (inverted .inverse-tile .ensures .1),
+    )
 
 same-length : tie.Need-same-length
 same-length c = search needs
@@ -65,11 +75,13 @@ same-length c = search needs
 returns : tie.Need-returns
 returns c =
     let last = c .before .before in
-    let inverted = last .before .before .before .before in
+    let inverted = last .before .before .before .before .before in
     let down = down inverted in
     let field = down .before .before in
-    recovered (numbers field) _ (down .settle .last .0) (inverted .inverse-tile .last .0) (last .offset-residues .last .0) (start field .pre .2)
-    (inverted .inverse-tile .kept .0 ∙ down .settle .kept .0) (down .settle .ensures) (inverted .inverse-tile .ensures .0) (last .offset-residues .ensures)
+    let s = start field in
+    recovered (numbers field) _ (down .settle .last .0) (inverted .inverse-tile .last .0) (last .offset-residues .last .0) (s .pre .0) (s .pre .1)
+    (s .pre .2) (inverted .inverse-tile .kept .0 ∙ down .settle .kept .0) (down .settle .ensures) (inverted .inverse-tile .ensures .0)
+    (last .offset-residues .ensures)
 
 pub recover-tile-spec : {M : Type 1} → statement M
 recover-tile-spec =
@@ -82,6 +94,8 @@ recover-tile-spec =
     mul-bound
     settle-requires
     inverse-tile-requires
+    mul-offset-residues
+    offset-of-requires
     offset-residues-requires
     same-length
     returns)

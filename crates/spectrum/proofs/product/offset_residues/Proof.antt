@@ -1,36 +1,18 @@
--- Word after word is finished; the numbers of the field meet what a word asks.
-use mathlib.Core.Path.{_≡_}
+-- Word after word becomes a residue.
 use Prim.Native.Nat.{_-_, _≤_}
-use lib.ListN.{length}
-use Rattle.algebra.specs.EachWord.{WordsDone, words-none, words-next}
-use Rattle.spectrum.specs.Product.{offsetResidue}
-use Rattle.spectrum.proofs.OffsetResidues.{field-reducible, field-residue}
 use native.Mathlib.Omega.{arith}
 use borrow.Author.Needs.{needs}
+use lib.ListN.{length}
+use Rattle.algebra.specs.EachWord.{WordsDone, words-none, words-next}
+use Rattle.spectrum.specs.Product.{OffsetResidue}
 use Rattle.spectrum.proofs.product.offset_residues.Statement.{statement}
 use Rattle.spectrum.proofs.product.offset_residues.Tie as tie
 
 abbrev Inv-loop : tie.InvT-loop
-Inv-loop words₀ field bits rest offset i₀ words i = (i ≤ length words₀) × WordsDone (λ _ a b. b ≡ offsetResidue field a) i words₀ words
+Inv-loop words₀ bits rest offset i₀ words i = (i ≤ length words₀) × WordsDone (λ _ a b. OffsetResidue bits rest a b) i words₀ words
 
 abbrev μ-loop : tie.MeasureT-loop
-μ-loop words₀ field bits rest offset i₀ words i = length words₀ - i
-
--- the call that the loop is of
-abbrev start : tie.At-loop Inv-loop μ-loop → tie.Start Inv-loop μ-loop
-start c = c .before .before .before .before .before
-
-bits-of-requires : tie.Need-bits-of-requires Inv-loop μ-loop
-bits-of-requires c κs = search needs
-
-halvings-of-requires : tie.Need-halvings-of-requires Inv-loop μ-loop
-halvings-of-requires c κs = search needs
-
-mul-rest : tie.Need-mul-rest Inv-loop μ-loop
-mul-rest c = search needs
-
-offset-of-requires : tie.Need-offset-of-requires Inv-loop μ-loop
-offset-of-requires c κs = search needs
+μ-loop words₀ bits rest offset i₀ words i = length words₀ - i
 
 loop-holds : tie.Need-loop-holds Inv-loop μ-loop
 loop-holds c = (omega arith, words-none)
@@ -44,12 +26,8 @@ slice-read-offset-residue c = search needs
 offset-residue-requires : tie.Need-offset-residue-requires Inv-loop μ-loop
 offset-residue-requires c κs =
     let head = c .before .before in
-    let halvings = head .before .before in
-    let s = start head in
-    rw (halvings .before .bits-of .ensures, halvings .halvings-of .ensures, head .loop .inv .1 .left (head .loop .i) (omega arith)) (
-      field-reducible (s .args .field) (s .pre .0 .0) (s .pre .0 .1) _ (s .pre .1 (head .loop .i) (omega arith)),
-      head .before .offset-of .ensures,
-    )
+    let s = head .before .before in
+    (rw (head .loop .inv .1 .left (head .loop .i) (omega arith)) (s .pre .1 (head .loop .i) (omega arith)), s .pre .0)
 
 mul-words : tie.Need-mul-words Inv-loop μ-loop
 mul-words c = search needs
@@ -66,10 +44,7 @@ loop-less c = search needs
 loop-again : tie.Need-loop-again Inv-loop μ-loop
 loop-again c =
     let head = c .before .before .before in
-    let halvings = head .before .before in
-    let s = start head in
-    let made = rw (halvings .before .bits-of .ensures, halvings .halvings-of .ensures) at (c .offset-residue .ensures) in
-    (omega arith, words-next _ (omega arith) (head .loop .inv .1) (field-residue (s .args .field) (s .pre .0 .0) (s .pre .0 .1) _ _ made))
+    (omega arith, words-next _ (omega arith) (head .loop .inv .1) (c .offset-residue .ensures))
 
 same-length : tie.Need-same-length Inv-loop μ-loop
 same-length c = search needs
@@ -83,10 +58,6 @@ offset-residues-spec =
     (tie.spec
     Inv-loop
     μ-loop
-    bits-of-requires
-    halvings-of-requires
-    mul-rest
-    offset-of-requires
     loop-holds
     mul-offset-residue
     slice-read-offset-residue
