@@ -1,5 +1,5 @@
-/* A transposed convolution planned, with a row and a column added too, run tile by tile and by strips, its outputs as levels, and a call that is
- * refused with the map value that it is refused for; a transform there and back; noise; two filters joined; a map to show for a range refusal. */
+/* A transposed convolution planned, with a row and a column added too, a budget tried, run tile by tile and by strips, its outputs as levels, and a call
+ * that is refused with the map value that it is refused for; a transform there and back; noise; two filters joined; a map to show for a range refusal. */
 #include <stdio.h>
 #include <string.h>
 
@@ -100,6 +100,10 @@ int main(void)
 
     map[0] = 100;
     map[SIDE * SIDE - 1] = -100;
+    size_t tried[8];
+    code = wemsteky_preview(layer, 0, 3, map, SIDE * SIDE, kernel, CHANNELS * 16, output, sizeof output / sizeof *output, scratch, SCRATCH, tried);
+    if (code != 0) return failed("preview", code);
+    printf("a budget of 3 would finish %zu tiles and store %zu values\n", tried[0], tried[7]);
     code = run_in_budgets(layer, kernel, CHANNELS * 16, progress);
     if (code != 0) return failed("job", code);
     printf("next tile %zu, done %zu\n", progress[1], progress[2]);

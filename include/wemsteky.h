@@ -45,8 +45,8 @@
  *
  * TILES are counted by output channel, then tile row, then tile column; each covers N - K + 1 rows and columns of the stride-1 grid.
  *
- * STRIPS are what wemsteky_strip_plan, wemsteky_strip_run and wemsteky_strip_job work in, and tiles are what wemsteky_plan, wemsteky_run and
- * wemsteky_job work in: two engines for the same sums. A strip is one output row's next 257 - K places of the stride-1 grid; strips are counted by
+ * STRIPS are what wemsteky_strip_plan, wemsteky_strip_run, wemsteky_strip_job and wemsteky_strip_preview work in, and tiles are what wemsteky_plan,
+ * wemsteky_run, wemsteky_job and wemsteky_preview work in: two engines for the same sums. A strip is one output row's next 257 - K places of the stride-1 grid; strips are counted by
  * output channel, then row, then place along the row. Strips take field 4 alone and 768 words of scratch. On a layer that both engines accept, all
  * outputs agree. A job has no mark of its engine: the caller keeps it to the one that it began with. docs/PERFORMANCE.md has instruction counts of both.
  *
@@ -71,7 +71,7 @@
  *                                         28 some joined weight not within 16 signed bits
  *                                         29 the layer is TCONV, or no cropped output has its whole window inside the map
  *
- * With 15 and 25, runs and jobs tell which value it is: the first one beyond the peak in stored order, that is by channel, then row,
+ * With 15 and 25, runs, jobs and previews tell which value it is: the first one beyond the peak in stored order, that is by channel, then row,
  * then column, each counted from 0, and its side, 1 above the peak, 2 below its negative. -32,768 is below the negative of every peak.
  *
  * WHAT THE CALLER KEEPS, which nothing checks: each pointer points to as many elements as its length says, also where that is 0, so no pointer is
@@ -87,7 +87,7 @@
 #include <stddef.h>
 #include <stdint.h>
 
-#define WEMSTEKY_VERSION 0x000600 /* major, minor and patch, a byte each */
+#define WEMSTEKY_VERSION 0x000700 /* major, minor and patch, a byte each */
 
 /* The words of scratch, 3 N N, in field 4 and in field 5. Scratch may be longer. */
 #define WEMSTEKY_SCRATCH_4 3072
@@ -129,6 +129,14 @@ WEMSTEKY_MUST_USE size_t wemsteky_job(const size_t layer[16], size_t next, size_
                                       const int16_t *kernel, size_t kernel_len, int32_t *output, size_t output_len, uint64_t *scratch,
                                       size_t scratch_len, size_t figures[7]);
 
+/* What wemsteky_job would do with that budget, with nothing done: it makes the same checks and returns the same number, output and scratch are not
+ * written, and the first seven figures are those of the call. The last is how many output values the call would store: those of the tiles that it
+ * would finish, 0 where it would be refused. It takes as long as the checks take, whatever the budget. Over the calls of a job that reach its total
+ * these counts add up to M h w. */
+WEMSTEKY_MUST_USE size_t wemsteky_preview(const size_t layer[16], size_t next, size_t budget, const int16_t *map, size_t map_len,
+                                          const int16_t *kernel, size_t kernel_len, const int32_t *output, size_t output_len,
+                                          const uint64_t *scratch, size_t scratch_len, size_t figures[8]);
+
 /* The same by strips: the figures count strips, the plan's last one is 768, and the first 768 words of scratch are used and left zero. */
 WEMSTEKY_MUST_USE size_t wemsteky_strip_plan(const size_t layer[16], size_t figures[4]);
 WEMSTEKY_MUST_USE size_t wemsteky_strip_run(const size_t layer[16], const int16_t *map, size_t map_len, const int16_t *kernel, size_t kernel_len,
@@ -136,6 +144,9 @@ WEMSTEKY_MUST_USE size_t wemsteky_strip_run(const size_t layer[16], const int16_
 WEMSTEKY_MUST_USE size_t wemsteky_strip_job(const size_t layer[16], size_t next, size_t budget, const int16_t *map, size_t map_len,
                                             const int16_t *kernel, size_t kernel_len, int32_t *output, size_t output_len, uint64_t *scratch,
                                             size_t scratch_len, size_t figures[7]);
+WEMSTEKY_MUST_USE size_t wemsteky_strip_preview(const size_t layer[16], size_t next, size_t budget, const int16_t *map, size_t map_len,
+                                                const int16_t *kernel, size_t kernel_len, const int32_t *output, size_t output_len,
+                                                const uint64_t *scratch, size_t scratch_len, size_t figures[8]);
 
 /* Checks 2, 18 and 19, then the transform of N residues at the root 2: entry k is the sum over n of words[n] times 2 to the power nk, modulo the
  * field. The inverse undoes it. */

@@ -67,6 +67,24 @@ static void *strip_job(void *with)
     return NULL;
 }
 
+static void *preview(void *with)
+{
+    const size_t *layer = with;
+    size_t figures[8];
+    answer = wemsteky_preview(layer, 0, 1, map, layer[4] * layer[5], kernel, layer[3] * layer[6] * layer[6], output,
+                              layer[3] * layer[12] * layer[13], scratch, 12288, figures);
+    return NULL;
+}
+
+static void *strip_preview(void *with)
+{
+    const size_t *layer = with;
+    size_t figures[8];
+    answer = wemsteky_strip_preview(layer, 0, 1, map, layer[4] * layer[5], kernel, layer[3] * layer[6] * layer[6], output,
+                                    layer[3] * layer[12] * layer[13], scratch, 768, figures);
+    return NULL;
+}
+
 static void *pair(void *with)
 {
     size_t field = *(size_t *)with, n = field == 4 ? 32 : 64;
@@ -123,7 +141,7 @@ static size_t touched(void *(*routine)(void *), const void *with)
 static void show(const char *name, void *(*routine)(void *), const void *with)
 {
     size_t bytes = touched(routine, with), none = touched(nothing, NULL);
-    printf("%-28s %6zu bytes, answer %zu\n", name, bytes > none ? bytes - none : 0, answer);
+    printf("%-32s %6zu bytes, answer %zu\n", name, bytes > none ? bytes - none : 0, answer);
 }
 
 int main(void)
@@ -138,9 +156,11 @@ int main(void)
     show("wemsteky_run, TCONV, field 4", run, tconv[0]);
     show("wemsteky_run, TCONV, field 5", run, tconv[1]);
     show("wemsteky_job, CONV, field 5", job, conv[1]);
+    show("wemsteky_preview, CONV, field 5", preview, conv[1]);
     show("wemsteky_strip_run, CONV", strip_run, conv[0]);
     show("wemsteky_strip_run, TCONV", strip_run, tconv[0]);
     show("wemsteky_strip_job, CONV", strip_job, conv[0]);
+    show("wemsteky_strip_preview, CONV", strip_preview, conv[0]);
     show("the transform pair, field 4", pair, &four);
     show("the transform pair, field 5", pair, &five);
     show("wemsteky_levels", levels, NULL);

@@ -49,6 +49,11 @@ impl<T: Copy + PartialEq> Buffer<T> {
         &self.all[GUARDS..self.all.len() - GUARDS]
     }
 
+    /// The first words, to be read; a few more than there are reach into the guard values.
+    pub fn show(&self, length: usize) -> &[T] {
+        &self.all[GUARDS..][..length]
+    }
+
     /// The first words, to be written; a few more than there are reach into the guard values.
     pub fn lend(&mut self, length: usize) -> &mut [T] {
         &mut self.all[GUARDS..][..length]

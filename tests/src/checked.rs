@@ -1,10 +1,10 @@
 //! Calls of the engine of which everything that they return and leave is held to the request: the number, the figures,
-//! the output, the scratch, the guard values, and what was lent to read.
+//! the output, the scratch, the guard values, and what was lent to read. Each run and job call is tried by a preview first.
 
 use crate::call::{Buffer, Buffers, Call};
 use crate::direct::direct_sums;
 use crate::draw;
-use crate::engine::{Answer, Engine};
+use crate::engine::{Answer, Engine, Preview};
 use crate::layer::Layer;
 use crate::parts::ENGINES;
 use crate::random::Random;
@@ -60,15 +60,34 @@ pub fn whole_run(random: &mut Random, call: &Call) -> Vec<i64> {
     sums
 }
 
+/// Tries a job call. It must answer as the call would, count the outputs that the finished parts hold, and change nothing.
+pub fn preview(call: &Call, buffers: &Buffers) -> Preview {
+    let (given, lent) = (call.clone(), buffers.clone());
+    let preview = call.engine.preview(
+        &call.layer.numbers(),
+        (call.next, call.budget),
+        (&call.map, &call.kernel),
+        buffers.output.show(call.output_length),
+        buffers.scratch.show(call.scratch_length),
+    );
+    assert_eq!(preview, expected_preview(call), "preview of {}", name(call));
+    same("output", &buffers.output, &lent.output, call);
+    same("scratch", &buffers.scratch, &lent.scratch, call);
+    assert!(*call == given, "map or kernel changed by a preview of {}", name(call));
+    preview
+}
+
 fn held(
     call: &Call,
     buffers: &mut Buffers,
     sums: Option<&[i64]>,
     made: impl FnOnce(&mut [i32], &mut [u64]) -> Answer,
 ) -> Answer {
+    let preview = preview(call, buffers);
     let (given, mut expected) = (call.clone(), buffers.clone());
     let answer = made(buffers.output.lend(call.output_length), buffers.scratch.lend(call.scratch_length));
     assert_eq!(answer, expected_answer(call), "answer to {}", name(call));
+    assert_eq!(answer, preview.answer, "answer to {} after its preview", name(call));
     if answer.number == 0 {
         expected.scratch.lend(call.scratch_words()).fill(0);
         finish(call, call.next..answer.next, sums, &buffers.output, &mut expected.output);
@@ -94,6 +113,16 @@ pub fn expected_answer(call: &Call) -> Answer {
     let count = call.budget.min(total - call.next);
     let next = call.next + count;
     Answer { number, count, next, done: usize::from(next == total), offender: Offender::default() }
+}
+
+/// What a preview must return: the count of values is that of the outputs, one by one, in the parts that the call finishes.
+pub fn expected_preview(call: &Call) -> Preview {
+    let answer = expected_answer(call);
+    let values = match answer.number {
+        0 => call.engine.places(&call.layer, call.next..answer.next).count(),
+        _ => 0,
+    };
+    Preview { answer, values }
 }
 
 /// Writes what the outputs of some parts must be: their sums, or what was found where no sums are given.

@@ -1,11 +1,11 @@
-//! The twelve functions of include/wemsteky.h, behind slices.
+//! The fourteen functions of include/wemsteky.h, behind slices.
 
 use crate::rules::Offender;
 
 mod c {
-    /// The plan, the run and the job of an engine.
+    /// The plan, the run, the job and the preview of an engine.
     macro_rules! engine {
-        ($plan:ident, $run:ident, $job:ident) => {
+        ($plan:ident, $run:ident, $job:ident, $preview:ident) => {
             extern "C" {
                 pub fn $plan(layer: *const usize, figures: *mut usize) -> usize;
                 pub fn $run(
@@ -34,12 +34,26 @@ mod c {
                     scratch_len: usize,
                     figures: *mut usize,
                 ) -> usize;
+                pub fn $preview(
+                    layer: *const usize,
+                    next: usize,
+                    budget: usize,
+                    map: *const i16,
+                    map_len: usize,
+                    kernel: *const i16,
+                    kernel_len: usize,
+                    output: *const i32,
+                    output_len: usize,
+                    scratch: *const u64,
+                    scratch_len: usize,
+                    figures: *mut usize,
+                ) -> usize;
             }
         };
     }
 
-    engine!(wemsteky_plan, wemsteky_run, wemsteky_job);
-    engine!(wemsteky_strip_plan, wemsteky_strip_run, wemsteky_strip_job);
+    engine!(wemsteky_plan, wemsteky_run, wemsteky_job, wemsteky_preview);
+    engine!(wemsteky_strip_plan, wemsteky_strip_run, wemsteky_strip_job, wemsteky_strip_preview);
 
     extern "C" {
         pub fn wemsteky_transform(field: usize, words: *mut u64, words_len: usize) -> usize;
@@ -103,12 +117,23 @@ pub struct Answer {
     pub offender: Offender,
 }
 
+impl Answer {
+    fn of(number: usize, [count, next, done, channel, row, column, side]: [usize; 7]) -> Answer {
+        Answer { number, count, next, done, offender: Offender { channel, row, column, side } }
+    }
+}
+
+/// What a preview returns: what the call would, and how many output values it would store.
+#[derive(Clone, Copy, Debug, PartialEq, Eq)]
+pub struct Preview {
+    pub answer: Answer,
+    pub values: usize,
+}
+
 /// The answer of a call that returns a number and writes seven figures.
 fn answer(call: impl FnOnce(*mut usize) -> usize) -> Answer {
     let mut figures = [UNWRITTEN; 7];
-    let number = call(figures.as_mut_ptr());
-    let [count, next, done, channel, row, column, side] = figures;
-    Answer { number, count, next, done, offender: Offender { channel, row, column, side } }
+    Answer::of(call(figures.as_mut_ptr()), figures)
 }
 
 /// What a layer is cut into: tiles, which are squares, or strips, which lie in one output row.
@@ -161,6 +186,30 @@ impl Engine {
         answer(|figures| {
             called!(function, (layer.as_ptr(), next, budget), read(map, kernel), written(output, scratch), figures)
         })
+    }
+
+    pub fn preview(
+        self,
+        layer: &[usize; 16],
+        (next, budget): (usize, usize),
+        (map, kernel): (&[i16], &[i16]),
+        output: &[i32],
+        scratch: &[u64],
+    ) -> Preview {
+        let function = match self {
+            Engine::Tiles => c::wemsteky_preview,
+            Engine::Strips => c::wemsteky_strip_preview,
+        };
+        let mut figures = [UNWRITTEN; 8];
+        let number = called!(
+            function,
+            (layer.as_ptr(), next, budget),
+            read(map, kernel, output, scratch),
+            written(),
+            figures.as_mut_ptr()
+        );
+        let [count, next, done, channel, row, column, side, values] = figures;
+        Preview { answer: Answer::of(number, [count, next, done, channel, row, column, side]), values }
     }
 }
 

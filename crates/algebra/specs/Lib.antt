@@ -1,5 +1,6 @@
 -- definitions
 pub mod Sum
+pub mod Counted
 pub mod First
 pub mod Greatest
 pub mod Every
@@ -11,6 +12,7 @@ pub mod Planes
 pub mod SumLaws
 pub mod DoubleSums
 pub mod TripleSums
+pub mod CountedLaws
 pub mod EveryLaws
 pub mod FirstLaws
 pub mod GreatestLaws

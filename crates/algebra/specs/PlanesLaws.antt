@@ -1,7 +1,7 @@
 -- Planes in a row, read back: a cell of them is the value at its plane, row and column, and these values are all there is to them.
-use mathlib.Core.Path.{_≡_, _∙_}
-use Prim.Native.Nat.{ℕ, _+_, _*_, _%_, _<_}
-use native.Mathlib.Nat.{mod-lt, div-lt-iff-lt-mul, mul-le-mul}
+use mathlib.Core.Path.{_≡_, sym, ap, _∙_}
+use Prim.Native.Nat.{ℕ, _+_, _*_, _/_, _%_, _<_}
+use native.Mathlib.Nat.{mod-lt, div-add-mod', div-lt-iff-lt-mul, mul-le-mul}
 use native.Mathlib.Omega.{arith}
 use lib.Arith.{digits-lt, digits-div, digits-mod}
 use lib.IntN.{ℤ, pos}
@@ -16,6 +16,13 @@ pub stacked-at : {Value : Type 0} (A B : ℕ) (value : ℕ → ℕ → ℕ → V
 stacked-at A B value k i j row column =
     let inner : i * B + j < A * B = digits-lt row column in
     rw (flat A B k i j, digits-div k inner, digits-mod k inner, digits-div i column, digits-mod i column)
+
+-- the plane, row and column of a flat place
+pub stacked-place : {Value : Type 0} (A B : ℕ) (value : ℕ → ℕ → ℕ → Value) (p : ℕ) → 0 < A → 0 < B
+    → stackedAt A B value p ≡ value (p / B / A) (p / B % A) (p % B)
+stacked-place A B value p some more =
+    ap (stackedAt A B value) (sym (ap (λ (q : ℕ). q * B + p % B) (div-add-mod' (p / B) A) ∙ div-add-mod' p B))
+    ∙ stacked-at A B value (p / B / A) (p / B % A) (p % B) (mod-lt (p / B) some) (mod-lt p more)
 
 pub cell-stacked : (planes A B : ℕ) (value : ℕ → ℕ → ℕ → ℤ) (k i j : ℕ) → k < planes → i < A → j < B
     → cell A B (stacked planes A B value) k i j ≡ value k i j

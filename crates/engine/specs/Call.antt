@@ -1,10 +1,10 @@
 -- 01, "A job", and 02, E11: what one call comes to, in any engine, for every job, budget, length and value. A refused call leaves everything as it
 -- was lent.
 use mathlib.Core.Path.{_≡_}
-use mathlib.Core.Bool.{false, _&&_, cond}
+use mathlib.Core.Bool.{false, cond}
 use mathlib.Core.List.{List}
 use Prim.Native.Nat.{ℕ, _+_, _-_, min}
-use lib.Dec.{leb, ltb, eqb}
+use lib.Dec.{ltb, eqb}
 use lib.IntN.{ℤ, pos}
 use lib.ListN.{length, getD}
 use Rattle.algebra.specs.Places.{table}
@@ -15,6 +15,7 @@ use Rattle.load.specs.declared.offender.Offender.{Offender}
 use Rattle.load.specs.Offender.{noOffender}
 use Rattle.checks.specs.Engine.{Engine}
 use Rattle.checks.specs.Checks.{runCode, jobCode, offenderWith}
+use Rattle.values.specs.Values.{inParts}
 use Rattle.engine.specs.declared.job.Job.{Job}
 use Rattle.engine.specs.declared.job.Progress.{Progress}
 
@@ -63,7 +64,7 @@ module _ (engine : Engine) where
   unfoldable pub finished : Layer → (map kernel : List ℤ) → (from to : ℕ) → List ℤ → List ℤ
   finished l map kernel from to output =
       table (length output)
-      (λ p. cond (leb from (engine .partOf l p) && ltb (engine .partOf l p) to) (directAt l map kernel p) (getD output p (pos 0)))
+      (λ p. cond (inParts engine l from to p) (directAt l map kernel p) (getD output p (pos 0)))
 
   -- ---- the call
 

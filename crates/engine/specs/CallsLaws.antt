@@ -19,12 +19,12 @@ use Rattle.checks.specs.Callable.{Callable}
 use Rattle.checks.specs.Engine.{Engine, Lawful}
 use Rattle.checks.specs.Checks.{isPlaced, offenderWith}
 use Rattle.checks.specs.ChecksLaws.{job-callable}
-use Rattle.checks.specs.OffenderLaws.{accepted-place}
 use Rattle.checks.specs.BeyondLaws.{sideNumber, placed-offends, placed-number}
 use Rattle.engine.specs.declared.job.Job.{Job}
 use Rattle.engine.specs.declared.job.Progress.{Progress}
 use Rattle.engine.specs.Call.{startOf, countOf, accepted, refused, finished, cleared, callCode, Called}
 use Rattle.engine.specs.Calls.{Call, Chained, jobAfter, outputAfter, acceptedCalls, acceptedBudgets, JobCalls, outputOf, Reaches}
+use Rattle.engine.specs.AnswerLaws.{answer-code, answer-place}
 use Rattle.engine.specs.FinishedLaws.{length-finished, finished-none, finished-then, finished-all}
 
 -- ---- one call
@@ -44,21 +44,13 @@ module _ {engine : Engine} {job : Job} {budget : ℕ} {map kernel output : List 
 
     -- the code is what the checks answer
     pub called-code : progress .code ≡ called
-    called-code = ap (λ (p : Progress). p .code) (call .answers) ∙ by-code called
-      where
-        by-code : (code : ℕ) → outcome code (accepted engine job (countOf engine job budget)) (refused job code (offenderWith code (job .layer) map)) .code ≡ code
-        by-code zero = refl
-        by-code (suc code) = refl
+    called-code = ap (λ (p : Progress). p .code) (call .answers) ∙ answer-code engine job budget map kernel (length output) (length scratch)
 
-    -- the place and the side are those that stand with the code: zeros with any but 15 and 25, whether the call is accepted or refused
+    -- the place and the side are those that stand with the code, whether the call is accepted or refused
     pub called-place : progress .offender ≡ offenderWith (progress .code) (job .layer) map
-    called-place = rw called-code (ap (λ (p : Progress). p .offender) (call .answers) ∙ by-code called)
-      where
-        by-code : (code : ℕ)
-            → outcome code (accepted engine job (countOf engine job budget)) (refused job code (offenderWith code (job .layer) map)) .offender
-            ≡ offenderWith code (job .layer) map
-        by-code zero = sym (accepted-place (job .layer) map refl)
-        by-code (suc code) = refl
+    called-place =
+        rw called-code
+        (ap (λ (p : Progress). p .offender) (call .answers) ∙ answer-place engine job budget map kernel (length output) (length scratch))
 
     -- with 15 and 25 they are those of the first map value beyond the peak, and the number is its side's
     first-told : isPlaced (progress .code) ≡ true → progress .offender ≡ offenderOf (job .layer) map

@@ -1,19 +1,15 @@
 // A job: a layer and the index of its next part. It is a value; each call takes it and hands back the moved job. It has no mark of its engine:
 // who calls it keeps it to the one that it began with.
+use crate::answer::answer_by;
 use crate::parts::finish_parts;
-use base::number::lesser;
 use base::words::clear;
-use checks::calls::Checked;
-use checks::calls::check_job;
 use checks::method::Method;
-use checks::method::part_total;
 use checks::method::scratch_words;
 use layer::shape::Layer;
 use load::offender::Offender;
 ghost use mathlib.Core.Path.{_≡_};
-ghost use Rattle.load.specs.Offender.{noOffender};
 ghost use Rattle.checks.specs.Engine.{tileEngine, stripEngine, engineOf};
-ghost use Rattle.engine.specs.Call.{startOf, refused, Called};
+ghost use Rattle.engine.specs.Call.{startOf, Called};
 
 pub struct Job {
     pub layer: Layer,
@@ -27,36 +23,6 @@ pub struct Progress {
     pub job: Job, // the moved job, or the job as given where the call is refused
     pub done: bool, // no part is left
     pub offender: Offender, // the first map value beyond the peak where the code is 15 or 25; zeros with any other
-}
-
-// What a refused call answers: the job as given.
-fn refusal(job: Job, checked: Checked) -> Progress
-    ensures { λ r. ⌜ r ≡ refused job (checked .code) (checked .offender) ⌝ }
-{
-    let offender = checked.offender;
-    Progress {
-        code: checked.code,
-        count: 0,
-        job: job,
-        done: false,
-        offender: offender,
-    }
-}
-
-// What an accepted call answers: the job moved to the next part.
-fn acceptance(layer: Layer, next: usize, count: usize, done: bool) -> Progress
-    ensures { λ r. ⌜ r ≡ record { code = 0; count = count; job = record { layer = layer; next = next }; done = done; offender = noOffender } ⌝ }
-{
-    Progress {
-        code: 0,
-        count: count,
-        job: Job {
-            layer: layer,
-            next: next,
-        },
-        done: done,
-        offender: Offender::none(),
-    }
 }
 
 impl Job {
@@ -84,24 +50,22 @@ impl Job {
     {
         let layer = self.layer;
         let next = self.next;
-        let checked = check_job(
+        let progress = answer_by(
+            self,
             method,
-            layer,
-            next,
+            budget,
             map,
             kernel,
             output.len(),
             scratch.len(),
         );
-        if checked.code != 0 {
-            return refusal(self, checked);
+        if progress.code != 0 {
+            return progress;
         }
-        let total = part_total(method, layer);
-        let count = lesser(budget, total - next);
-        let to = next + count;
+        let to = progress.job.next;
         finish_parts(method, layer, next, to, map, kernel, output, scratch);
         clear(scratch, 0, scratch_words(method, layer));
-        acceptance(layer, to, count, to == total)
+        progress
     }
 
     // By tiles: the first 3N² words of scratch are used.

@@ -1,4 +1,4 @@
-// Whole runs, and jobs that advance by a budget of parts: tiles, or strips.
+// Whole runs, jobs that advance by a budget of parts, tiles or strips, and previews of what a budget would do.
 use crate::job::Job;
 use crate::job::Progress;
 use checks::method::Method;
@@ -9,8 +9,10 @@ ghost use Rattle.layer.specs.Strip.{stripTotal};
 ghost use Rattle.checks.specs.Engine.{tileEngine, stripEngine, engineOf};
 ghost use Rattle.engine.specs.Call.{startOf, Called};
 
+mod answer;
 pub mod job;
 mod parts;
+pub mod preview;
 mod strips;
 mod tiles;
 

@@ -2,7 +2,7 @@
 -- total holds an output place; and bounds of a layer's strip figures. They rest on the laws of parts along a line and of tiles.
 use mathlib.Core.Path.{_≡_, sym, ap, _∙_}
 use Prim.Native.Nat.{ℕ, _+_, _*_, _-_, _/_, _%_, _<_, _≤_}
-use native.Mathlib.Nat.{div-lt-iff-lt-mul, div-add-mod', div-le-self, mod-lt, mul-le-mul}
+use native.Mathlib.Nat.{div-lt-iff-lt-mul, div-add-mod', mod-lt, mul-le-mul}
 use native.Mathlib.Omega.{arith}
 use lib.Arith.{digits-lt, digits-div, digits-mod}
 use Rattle.algebra.specs.Planes.{stackedAt}
@@ -13,7 +13,7 @@ use Rattle.layer.specs.declared.shape.Layer.{Layer}
 use Rattle.layer.specs.Planned.{InRange, Planned}
 use Rattle.layer.specs.Shape.{gridStep, span, channelOf, rowOf, columnOf}
 use Rattle.layer.specs.Strip.{stripLength, stripColumns, stripTotal, stripOf, stripChannel, stripRow, stripColumn}
-use Rattle.layer.specs.TileSizeLaws.{columns-wanted, span-high}
+use Rattle.layer.specs.TileSizeLaws.{columns-wanted, parts-high}
 use Rattle.layer.specs.CountLaws.{output-rows-high}
 use Rattle.layer.specs.PartLaws.{Held, step-range, wanted-lt, part-some, part-held}
 use Rattle.layer.specs.TileLaws.{Tiled, planned-tiled, row-lt, column-lt, channel-lt}
@@ -35,14 +35,7 @@ module _ (l : Layer) (plan : Planned l) where
   strip-columns-some = part-some l (stripLength l) (l .columns) some (plan .columns-low)
 
   pub strip-columns-high : stripColumns l ≤ 8484
-  unfolding ceilingDiv
-  strip-columns-high =
-      omega (
-        arith,
-        div-le-self (span l (l .columns) + stripLength l - 1) (stripLength l),
-        span-high l (l .columns) (columns-wanted l plan),
-        strip-length-high l (plan .shape),
-      )
+  strip-columns-high = parts-high l (l .columns) (columns-wanted l plan) (stripLength l) (strip-length-high l (plan .shape))
 
   -- the count of strips does not wrap
   pub strip-total-high : stripTotal l ≤ 131712 * 8484

@@ -36,6 +36,11 @@ module _ (l : Layer) (count : ℕ) (w : Wanted l count) where
   pub span-high : span l count ≤ 8229
   span-high = cond-le (isConv l) (omega (arith, steps-high)) (omega (arith, w .count-high))
 
+  -- parts of any length that parts have
+  pub parts-high : (length : ℕ) → length ≤ 256 → ceilingDiv (span l count) length ≤ 8484
+  unfolding ceilingDiv
+  parts-high length high = omega (arith, div-le-self (span l count + length - 1) length, span-high)
+
   pub across-high : ceilingDiv (span l count) (tileSide l) ≤ 8292
   unfolding ceilingDiv
   across-high = omega (arith, div-le-self (span l count + tileSide l - 1) (tileSide l), span-high, tile-side-high l (w .shape))

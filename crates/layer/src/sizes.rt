@@ -69,7 +69,7 @@ pub fn grid_step(layer: Layer) -> usize
 }
 
 // R of the rows kept, Q of the columns kept.
-pub(crate) fn span_of(layer: Layer, count: usize) -> usize
+fn span_of(layer: Layer, count: usize) -> usize
     requires { ⌜ Wanted layer count ⌝ }
     ensures { λ r. ⌜ r ≡ span layer count ⌝ }
 {
@@ -80,12 +80,20 @@ pub(crate) fn span_of(layer: Layer, count: usize) -> usize
     }
 }
 
+// Parts of that length along the rows kept, or along the columns kept.
+pub fn parts_along(layer: Layer, count: usize, length: usize) -> usize
+    requires { ⌜ Wanted layer count × (1 ≤ length) × (length ≤ 256) ⌝ }
+    ensures { λ r. ⌜ r ≡ ceilingDiv (span layer count) length ⌝ }
+{
+    ceiling_div(span_of(layer, count), length)
+}
+
 // Tile rows of the rows kept, tile columns of the columns kept.
 pub fn tiles_along(layer: Layer, count: usize) -> usize
     requires { ⌜ Wanted layer count ⌝ }
     ensures { λ r. ⌜ r ≡ ceilingDiv (span layer count) (tileSide layer) ⌝ }
 {
-    ceiling_div(span_of(layer, count), tile_side(layer))
+    parts_along(layer, count, tile_side(layer))
 }
 
 // M × ⌈R/L⌉ × ⌈Q/L⌉.

@@ -1,8 +1,7 @@
 // The strips of a layer: their length, how many there are, and where one stands.
 use crate::place::Place;
 use crate::shape::Layer;
-use crate::sizes::span_of;
-use base::number::ceiling_div;
+use crate::sizes::parts_along;
 ghost use mathlib.Core.Path.{_≡_};
 ghost use Prim.Native.Nat.{_<_};
 ghost use Rattle.layer.specs.Planned.{InRange, Planned};
@@ -21,7 +20,7 @@ fn strip_columns(layer: Layer) -> usize
     requires { ⌜ Planned layer ⌝ }
     ensures { λ r. ⌜ r ≡ stripColumns layer ⌝ }
 {
-    ceiling_div(span_of(layer, layer.columns), strip_length(layer))
+    parts_along(layer, layer.columns, strip_length(layer))
 }
 
 // M × h × ⌈Q/L⌉.

@@ -2,6 +2,7 @@
 use checks::planner;
 use engine::job::Job;
 use engine::job::Progress;
+use engine::preview::Preview;
 use layer::numbers::layer_of;
 use layer::shape::Plan;
 ghost use mathlib.Core.Path.{_≡_};
@@ -13,11 +14,12 @@ ghost use Rattle.layer.specs.Numbers.{layerOf};
 ghost use Rattle.checks.specs.Engine.{tileEngine, stripEngine};
 ghost use Rattle.checks.specs.Checks.{planOf};
 ghost use Rattle.engine.specs.Call.{startOf};
+ghost use Rattle.engine.specs.Preview.{previewOf};
 ghost use Rattle.levels.specs.Answer.{levelsCode, levelsLeft};
 ghost use Rattle.noise.specs.Draw.{lastSeed, noiseLeft};
 ghost use Rattle.join.specs.Answer.{joinCode, joinLeft};
 ghost use Rattle.worst.specs.Answer.{worstCode, worstLeft};
-ghost use Rattle.wemsteky.specs.Figures.{planFigures, progressFigures, Reported};
+ghost use Rattle.wemsteky.specs.Figures.{planFigures, progressFigures, previewFigures, Reported};
 
 // E, F, the total of parts and the words of scratch; zeros where the layer is refused.
 fn show_plan(plan: Plan, figures: &mut [usize; 4]) -> usize
@@ -47,12 +49,11 @@ pub extern "C" fn wemsteky_strip_plan(layer: &[usize; 16], figures: &mut [usize;
 }
 
 // The count, the index of the next part and the done mark of a call; channel, row, column and side of the map value that 15 and 25 speak of.
-fn report(progress: Progress, figures: &mut [usize; 7]) -> usize
-    ensures { λ r. ⌜ r ≡ progress .code ⌝ }
-    ensures { λ _. ⌜ now (figures .exit) ≡ progressFigures progress ⌝ }
+fn seven_figures(progress: Progress) -> [usize; 7]
+    ensures { λ r. ⌜ r ≡ progressFigures progress ⌝ }
 {
     let done = progress.done as usize;
-    *figures = [
+    [
         progress.count,
         progress.job.next,
         done,
@@ -60,8 +61,34 @@ fn report(progress: Progress, figures: &mut [usize; 7]) -> usize
         progress.offender.row,
         progress.offender.column,
         progress.offender.side,
-    ];
+    ]
+}
+
+fn report(progress: Progress, figures: &mut [usize; 7]) -> usize
+    ensures { λ r. ⌜ r ≡ progress .code ⌝ }
+    ensures { λ _. ⌜ now (figures .exit) ≡ progressFigures progress ⌝ }
+{
+    *figures = seven_figures(progress);
     progress.code
+}
+
+// The figures of the call, then the values that it would store.
+fn report_preview(preview: Preview, figures: &mut [usize; 8]) -> usize
+    ensures { λ r. ⌜ r ≡ preview .progress .code ⌝ }
+    ensures { λ _. ⌜ now (figures .exit) ≡ previewFigures preview ⌝ }
+{
+    let call = seven_figures(preview.progress);
+    *figures = [
+        call[0],
+        call[1],
+        call[2],
+        call[3],
+        call[4],
+        call[5],
+        call[6],
+        preview.values,
+    ];
+    preview.progress.code
 }
 
 // The job of a layer at that part.
@@ -138,6 +165,44 @@ pub extern "C" fn wemsteky_strip_job(
     let job = job_of(layer, next);
     let progress = job.advance_strips(budget, map, kernel, output, scratch);
     report(progress, figures)
+}
+
+#[no_mangle]
+pub extern "C" fn wemsteky_preview(
+    layer: &[usize; 16],
+    next: usize,
+    budget: usize,
+    map: &[i16],
+    kernel: &[i16],
+    output: &[i32],
+    scratch: &[u64],
+    figures: &mut [usize; 8],
+) -> usize
+    ensures { λ r. ⌜ r ≡ previewOf tileEngine (record { layer = layerOf (now (layer .entry)); next = next }) budget (now (map .entry)) (now (kernel .entry)) (length (now (output .entry))) (length (now (scratch .entry))) .progress .code ⌝ }
+    ensures { λ _. ⌜ now (figures .exit) ≡ previewFigures (previewOf tileEngine (record { layer = layerOf (now (layer .entry)); next = next }) budget (now (map .entry)) (now (kernel .entry)) (length (now (output .entry))) (length (now (scratch .entry)))) ⌝ }
+{
+    let job = job_of(layer, next);
+    let preview = job.preview(budget, map, kernel, output, scratch);
+    report_preview(preview, figures)
+}
+
+#[no_mangle]
+pub extern "C" fn wemsteky_strip_preview(
+    layer: &[usize; 16],
+    next: usize,
+    budget: usize,
+    map: &[i16],
+    kernel: &[i16],
+    output: &[i32],
+    scratch: &[u64],
+    figures: &mut [usize; 8],
+) -> usize
+    ensures { λ r. ⌜ r ≡ previewOf stripEngine (record { layer = layerOf (now (layer .entry)); next = next }) budget (now (map .entry)) (now (kernel .entry)) (length (now (output .entry))) (length (now (scratch .entry))) .progress .code ⌝ }
+    ensures { λ _. ⌜ now (figures .exit) ≡ previewFigures (previewOf stripEngine (record { layer = layerOf (now (layer .entry)); next = next }) budget (now (map .entry)) (now (kernel .entry)) (length (now (output .entry))) (length (now (scratch .entry)))) ⌝ }
+{
+    let job = job_of(layer, next);
+    let preview = job.preview_strips(budget, map, kernel, output, scratch);
+    report_preview(preview, figures)
 }
 
 #[no_mangle]

@@ -1,5 +1,5 @@
-//! Instructions of `levels`, `noise`, `join`, `worst_map` and of a job call of no tile, as valgrind counts them: those of a program that makes two
-//! calls less those of one that makes one, and so many for each value or pair of weights. Nothing is asserted of a count.
+//! Instructions of `levels`, `noise`, `join`, `worst_map`, of a job call of no part and of previews, as valgrind counts them: those of a program that
+//! makes two calls less those of one that makes one, and so many for each value or pair of weights. Nothing is asserted of a count.
 
 use wemsteky_tests::engine::Engine;
 use wemsteky_tests::random::Random;
@@ -11,8 +11,11 @@ const VALUES: usize = 1_000_000;
 /// The channels of a joined filter, in each place.
 const CHANNELS: usize = 16;
 
-/// A function with a figure: the shift of levels, the sides of two filters, the place of a map value beyond the peak, or
-/// the side of a kernel.
+/// The rows and columns of a map and an output of 64 channels each.
+const LARGE: usize = 128;
+
+/// A function with a figure: the shift of levels, the sides of two filters, the place of a map value beyond the peak, the
+/// side of a kernel, or the engine and the budget of a preview; a job call of no part stands beside the previews.
 #[derive(Clone, Copy)]
 enum Counted {
     Levels { shift: usize },
@@ -20,9 +23,11 @@ enum Counted {
     Join { first: usize, second: usize },
     Job { beyond: Option<usize> },
     WorstMap { side: usize },
+    NoPart { engine: Engine },
+    Preview { engine: Engine, budget: usize },
 }
 
-const COUNTED: [Counted; 12] = [
+const COUNTED: [Counted; 18] = [
     Counted::Levels { shift: 0 },
     Counted::Levels { shift: 8 },
     Counted::Levels { shift: 31 },
@@ -35,6 +40,12 @@ const COUNTED: [Counted; 12] = [
     Counted::Job { beyond: Some(VALUES - 1) },
     Counted::WorstMap { side: 1 },
     Counted::WorstMap { side: 11 },
+    Counted::NoPart { engine: Engine::Tiles },
+    Counted::Preview { engine: Engine::Tiles, budget: 0 },
+    Counted::Preview { engine: Engine::Tiles, budget: usize::MAX },
+    Counted::NoPart { engine: Engine::Strips },
+    Counted::Preview { engine: Engine::Strips, budget: 0 },
+    Counted::Preview { engine: Engine::Strips, budget: usize::MAX },
 ];
 
 impl Counted {
@@ -46,6 +57,9 @@ impl Counted {
             Self::Job { beyond: None } => "job of no tile, no map value beyond the peak".to_string(),
             Self::Job { beyond: Some(place) } => format!("job of no tile, map value {place} beyond the peak"),
             Self::WorstMap { side } => format!("worst map, side {side}"),
+            Self::NoPart { engine } => format!("job of no part, 64 channels, {engine:?}"),
+            Self::Preview { engine, budget: 0 } => format!("preview of no part, 64 channels, {engine:?}"),
+            Self::Preview { engine, .. } => format!("preview of all parts, 64 channels, {engine:?}"),
         }
     }
 
@@ -53,6 +67,7 @@ impl Counted {
     fn items(self) -> usize {
         match self {
             Self::Levels { .. } | Self::Noise | Self::Job { .. } | Self::WorstMap { .. } => VALUES,
+            Self::NoPart { .. } | Self::Preview { .. } => 64 * LARGE * LARGE,
             Self::Join { first, second } => CHANNELS * CHANNELS * CHANNELS * (first * first) * (second * second),
         }
     }
@@ -64,6 +79,8 @@ impl Counted {
             Self::Join { first, second } => join(first, second, calls),
             Self::Job { beyond } => job(beyond, calls),
             Self::WorstMap { side } => worst_map(side, calls),
+            Self::NoPart { engine } => no_part(engine, calls),
+            Self::Preview { engine, budget } => preview(engine, budget, calls),
         }
     }
 }
@@ -107,6 +124,28 @@ fn worst_map(side: usize, calls: usize) {
     let layer = [0, 4, 4, 1, 500, 500, side, 1, 0, 100, 0, 0, 1, 1, 0, 0];
     let (kernel, mut map) = (vec![-1; 4 * side * side], vec![0; VALUES]);
     (0..calls).for_each(|_| assert_eq!(engine::worst_map(&layer, &kernel, &mut map), 0));
+}
+
+/// 64 channels to 64 of LARGE by LARGE, K 3, S 1, P 1.
+const CHANNELS_64: [usize; 16] = [0, 4, 64, 64, LARGE, LARGE, 3, 1, 1, 1, 0, 0, LARGE, LARGE, 0, 0];
+
+fn no_part(engine: Engine, calls: usize) {
+    let (map, kernel) = (vec![1; 64 * LARGE * LARGE], vec![1; 64 * 64 * 9]);
+    let (mut output, mut scratch) = (vec![0; 64 * LARGE * LARGE], [0; 3072]);
+    for _ in 0..calls {
+        let answer = engine.job(&CHANNELS_64, (0, 0), (&map, &kernel), &mut output, &mut scratch);
+        assert_eq!((answer.number, answer.count), (0, 0));
+    }
+}
+
+fn preview(engine: Engine, budget: usize, calls: usize) {
+    let (map, kernel) = (vec![1; 64 * LARGE * LARGE], vec![1; 64 * 64 * 9]);
+    let (output, scratch) = (vec![0; 64 * LARGE * LARGE], [0; 3072]);
+    for _ in 0..calls {
+        let preview = engine.preview(&CHANNELS_64, (0, budget), (&map, &kernel), &output, &scratch);
+        let values = if budget == 0 { 0 } else { 64 * LARGE * LARGE };
+        assert_eq!((preview.answer.number, preview.values), (0, values));
+    }
 }
 
 fn counted(number: usize) -> Option<f64> {

@@ -6,8 +6,8 @@ use Prim.Native.Nat.{ℕ}
 use mir.Val.{boolByte}
 use borrow.Author.Needs.{needs}
 use Rattle.wemsteky.specs.Figures.{offenderFigures}
-use Rattle.wemsteky.proofs.report.Statement.{statement}
-use Rattle.wemsteky.proofs.report.Tie as tie
+use Rattle.wemsteky.proofs.seven_figures.Statement.{statement}
+use Rattle.wemsteky.proofs.seven_figures.Tie as tie
 
 marked : (done : Bool) → _≡_ {A = ℕ} (boolByte done) (cond done 1 0)
 marked true = refl
@@ -18,8 +18,9 @@ cast-done c = search needs
 
 returns : tie.Need-returns
 returns c =
-    let p = c .before .before .args .progress in
-    (refl, ap (λ (mark : ℕ). p .count ∷ p .job .next ∷ mark ∷ offenderFigures (p .offender)) (marked (p .done)))
+    let s : tie.Start = search in
+    let p = s .args .progress in
+    ap (λ (mark : ℕ). p .count ∷ p .job .next ∷ mark ∷ offenderFigures (p .offender)) (marked (p .done))
 
-pub report-spec : {M : Type 1} → statement M
-report-spec = tie.close (tie.spec cast-done returns)
+pub seven-figures-spec : {M : Type 1} → statement M
+seven-figures-spec = tie.close (tie.spec cast-done returns)

@@ -3,8 +3,8 @@ use mathlib.Core.Path.{ap}
 use borrow.Author.Needs.{needs}
 use Rattle.load.specs.declared.offender.Offender.{Offender}
 use Rattle.engine.specs.declared.job.Progress.{Progress}
-use Rattle.engine.proofs.job.acceptance.Statement.{statement}
-use Rattle.engine.proofs.job.acceptance.Tie as tie
+use Rattle.engine.proofs.answer.acceptance.Statement.{statement}
+use Rattle.engine.proofs.answer.acceptance.Tie as tie
 
 none-requires : tie.Need-none-requires
 none-requires c κs = search needs

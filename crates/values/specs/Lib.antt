@@ -1,0 +1,7 @@
+-- definitions
+pub mod Values
+pub mod PartSize
+-- laws
+pub mod ValuesLaws
+pub mod PlaneLaws
+pub mod PartSizeLaws
