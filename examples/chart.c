@@ -1,5 +1,6 @@
-/* A transposed convolution planned, with a row and a column added too, a budget tried, run tile by tile and by strips, its outputs as levels, and a call
- * that is refused with the map value that it is refused for; a transform there and back; noise; two filters joined; a map to show for a range refusal. */
+/* A transposed convolution planned, with a row and a column added too, a budget tried, run tile by tile and by strips, its outputs as levels, and a
+ * call that is refused with the map value that it is refused for; a transform there and back; noise; two filters joined; a map to show for a range
+ * refusal. */
 #include <stdio.h>
 #include <string.h>
 

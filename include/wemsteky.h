@@ -46,9 +46,10 @@
  * TILES are counted by output channel, then tile row, then tile column; each covers N - K + 1 rows and columns of the stride-1 grid.
  *
  * STRIPS are what wemsteky_strip_plan, wemsteky_strip_run, wemsteky_strip_job and wemsteky_strip_preview work in, and tiles are what wemsteky_plan,
- * wemsteky_run, wemsteky_job and wemsteky_preview work in: two engines for the same sums. A strip is one output row's next 257 - K places of the stride-1 grid; strips are counted by
- * output channel, then row, then place along the row. Strips take field 4 alone and 768 words of scratch. On a layer that both engines accept, all
- * outputs agree. A job has no mark of its engine: the caller keeps it to the one that it began with. docs/PERFORMANCE.md has instruction counts of both.
+ * wemsteky_run, wemsteky_job and wemsteky_preview work in: two engines for the same sums. A strip is one output row's next 257 - K places of the
+ * stride-1 grid; strips are counted by output channel, then row, then place along the row. Strips take field 4 alone and 768 words of scratch. On a
+ * layer that both engines accept, all outputs agree. A job has no mark of its engine: the caller keeps it to the one that it began with.
+ * docs/PERFORMANCE.md has instruction counts of both.
  *
  * ANSWERS. Every function takes any numbers, lengths and values. It returns 0, or the number of the first check that fails, in this order; a
  * refused call changes no output, scratch, words, levels, joined kernel or map to be written.
@@ -71,15 +72,15 @@
  *                                         28 some joined weight not within 16 signed bits
  *                                         29 the layer is TCONV, or no cropped output has its whole window inside the map
  *
- * With 15 and 25, runs, jobs and previews tell which value it is: the first one beyond the peak in stored order, that is by channel, then row,
- * then column, each counted from 0, and its side, 1 above the peak, 2 below its negative. -32,768 is below the negative of every peak.
+ * With 15 and 25, runs, jobs and previews tell which value it is: the first one beyond the peak in stored order, that is by channel, then row, then
+ * column, each counted from 0, and its side, 1 above the peak, 2 below its negative. -32,768 is below the negative of every peak.
  *
  * WHAT THE CALLER KEEPS, which nothing checks: each pointer points to as many elements as its length says, also where that is 0, so no pointer is
  * null; a buffer that a call writes (output, scratch, figures, words, levels, map of wemsteky_noise and of wemsteky_worst_map, joined) overlaps no
  * other buffer of the call; nobody else writes a buffer of a call while it runs. size_t has 64 bits.
  *
- * The functions allocate nothing, have no globals and hold no locks: any number of calls may run at once on buffers of their own. Runs used 4,832
- * bytes of stack when that was measured, a job call 4,624, the others less (tests/stack.c prints it).
+ * The functions allocate nothing, have no globals and hold no locks: any number of calls may run at once on buffers of their own. Runs used 5,389
+ * bytes of stack when that was measured, a job call 5,181, the others less (tests/stack.c prints it).
  */
 #ifndef WEMSTEKY_H
 #define WEMSTEKY_H

@@ -1,7 +1,8 @@
 /* The stack that each function of the library uses, measured: it runs on a thread whose stack was filled with a pattern before, and the lowest
- * byte that no longer holds it tells. What the thread itself needs is measured with a call that does nothing, and taken off.
+ * byte that no longer holds it tells. What the thread itself needs is measured with a call that does nothing, and taken off; the C library's functions
+ * are bound before it starts, so that the work of binding them is not counted.
  *
- *     cc -std=c99 -O2 -Iinclude tests/stack.c target/staticlib/libwemsteky.a -lpthread -o stack && ./stack
+ *     cc -std=c99 -O2 -Iinclude tests/stack.c target/staticlib/libwemsteky.a -lpthread -Wl,-z,now -o stack && ./stack
  */
 #define _GNU_SOURCE
 #include <pthread.h>

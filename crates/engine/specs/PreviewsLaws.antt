@@ -3,7 +3,7 @@
 -- total. It rests on the laws of answers, of values in parts and of lists of calls.
 use mathlib.Core.Path.{_≡_, refl, sym, ap, _∙_}
 use mathlib.Core.List.{List, [], _∷_}
-use Prim.Native.Nat.{ℕ, zero, suc, _+_, _≤_, min}
+use Prim.Native.Nat.{ℕ, _+_, _≤_, min}
 use native.Mathlib.Omega.{arith}
 use lib.IntN.{ℤ}
 use lib.ListN.{length}
@@ -12,48 +12,28 @@ use Rattle.base.specs.Rules.{outcome}
 use Rattle.layer.specs.declared.shape.Layer.{Layer}
 use Rattle.layer.specs.Shape.{outputCount}
 use Rattle.checks.specs.Engine.{Engine, Lawful}
-use Rattle.checks.specs.Checks.{offenderWith}
 use Rattle.values.specs.Values.{inParts, valuesIn}
 use Rattle.values.specs.ValuesLaws.{values-none, values-then, values-all}
 use Rattle.engine.specs.declared.job.Job.{Job}
 use Rattle.engine.specs.declared.job.Progress.{Progress}
 use Rattle.engine.specs.declared.preview.Preview.{Preview}
-use Rattle.engine.specs.Call.{startOf, countOf, accepted, refused, callCode, answerOf}
+use Rattle.engine.specs.Call.{startOf, countOf, answerOf}
 use Rattle.engine.specs.Calls.{Call, Chained, jobAfter, acceptedBudgets, Reaches}
+use Rattle.engine.specs.AnswerLaws.{by-answer, answer-layer, answer-order}
 use Rattle.engine.specs.CallsLaws.{call-callable, calls-job, calls-callable}
 use Rattle.engine.specs.Preview.{valuesOf, previewOf}
-use Rattle.engine.specs.Previews.{Tried, TriedCall, Step, tried, called, callsOf, valuesTold, JobSteps, jobCalls}
+use Rattle.engine.specs.Previews.{TriedCall, Step, tried, called, callsOf, valuesTold, JobSteps, jobCalls}
 
 -- ---- one call
 
 -- the values of a call, accepted or refused, are those in the parts from its job's next up to that of its answer
-module _ (engine : Engine) (job : Job) (budget : ℕ) (map kernel : List ℤ) (output scratch : ℕ) where
-  abbrev answer : (code : ℕ) → Progress
-  answer code = outcome code (accepted engine job (countOf engine job budget)) (refused job code (offenderWith code (job .layer) map))
-
-  answer-layer : answerOf engine job budget map kernel output scratch .job .layer ≡ job .layer
-  answer-layer = by-code (callCode engine job map kernel output scratch)
-    where
-      by-code : (code : ℕ) → answer code .job .layer ≡ job .layer
-      by-code zero = refl
-      by-code (suc code) = refl
-
-  answer-order : job .next ≤ answerOf engine job budget map kernel output scratch .job .next
-  answer-order = by-code (callCode engine job map kernel output scratch)
-    where
-      by-code : (code : ℕ) → job .next ≤ answer code .job .next
-      by-code zero = omega arith
-      by-code (suc code) = omega arith
-
-  pub values-moved : valuesOf engine job budget map kernel output scratch
-      ≡ valuesIn engine (job .layer) (job .next) (answerOf engine job budget map kernel output scratch .job .next)
-  values-moved = by-code (callCode engine job map kernel output scratch)
-    where
-      by-code : (code : ℕ)
-          → outcome code (valuesIn engine (job .layer) (job .next) (job .next + countOf engine job budget)) 0
-          ≡ valuesIn engine (job .layer) (job .next) (answer code .job .next)
-      by-code zero = refl
-      by-code (suc code) = sym (values-none engine (job .layer) (job .next))
+pub values-moved : (engine : Engine) (job : Job) (budget : ℕ) (map kernel : List ℤ) (output scratch : ℕ)
+    → valuesOf engine job budget map kernel output scratch
+    ≡ valuesIn engine (job .layer) (job .next) (answerOf engine job budget map kernel output scratch .job .next)
+values-moved engine job budget map kernel output scratch =
+    by-answer engine job budget map kernel output scratch
+    (λ code p. outcome code (valuesIn engine (job .layer) (job .next) (job .next + countOf engine job budget)) 0 ≡ valuesIn engine (job .layer) (job .next) (p .job .next))
+    refl (λ code. sym (values-none engine (job .layer) (job .next)))
 
 module _ {engine : Engine} (call : Call engine) where
   -- of the call's answer

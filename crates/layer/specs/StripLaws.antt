@@ -8,10 +8,9 @@ use lib.Arith.{digits-lt, digits-div, digits-mod}
 use Rattle.algebra.specs.Planes.{stackedAt}
 use Rattle.algebra.specs.PlanesLaws.{stacked-at}
 use Rattle.base.specs.NumberLaws.{quotient-low, quotient-high, quotient-is}
-use Rattle.base.specs.Number.{ceilingDiv}
 use Rattle.layer.specs.declared.shape.Layer.{Layer}
 use Rattle.layer.specs.Planned.{InRange, Planned}
-use Rattle.layer.specs.Shape.{gridStep, span, channelOf, rowOf, columnOf}
+use Rattle.layer.specs.Shape.{gridStep, channelOf, rowOf, columnOf}
 use Rattle.layer.specs.Strip.{stripLength, stripColumns, stripTotal, stripOf, stripChannel, stripRow, stripColumn}
 use Rattle.layer.specs.TileSizeLaws.{columns-wanted, parts-high}
 use Rattle.layer.specs.CountLaws.{output-rows-high}

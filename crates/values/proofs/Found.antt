@@ -1,7 +1,7 @@
 -- What is found of a part on the way to the values before it, as equations between numbers, and what these come to. It rests on the laws of the parts of
 -- either engine.
-use mathlib.Core.Path.{_≡_, sym, ap, _∙_}
-use Prim.Native.Nat.{ℕ, suc, _+_, _*_, _-_, _/_, _%_, _≤_}
+use mathlib.Core.Path.{_≡_, sym}
+use Prim.Native.Nat.{ℕ, _+_, _*_, _-_, _/_, _%_, _≤_}
 use native.Mathlib.Numerals.{add-one}
 use Rattle.base.specs.Number.{ceilingDiv}
 use Rattle.layer.specs.declared.shape.Layer.{Layer}
@@ -12,7 +12,8 @@ use Rattle.checks.specs.declared.method.Method.{Method}
 use Rattle.checks.specs.Engine.{engineOf}
 use Rattle.values.specs.Values.{valuesIn}
 use Rattle.values.specs.PartSize.{partHeight, partWidth, heldBefore}
-use Rattle.values.specs.PartSizeLaws.{height-range, width-range, held-high, held-grows, plane-le, values-before}
+use Rattle.values.specs.PartSizeLaws.{height-range, width-range, held-high, held-grows}
+use Rattle.values.specs.BeforeLaws.{plane-le, values-before}
 
 pub record Found (method : Method) (l : Layer) (part height width down across above through left : ℕ) : Type 0 where
   pub height-is : height ≡ partHeight method l

@@ -5,3 +5,5 @@ pub mod PartSize
 pub mod ValuesLaws
 pub mod PlaneLaws
 pub mod PartSizeLaws
+pub mod BeforeLaws
+pub mod ValuesCases

@@ -1,5 +1,5 @@
 -- Laws of the values in parts, of any engine: in no part, in two runs of parts in a row, and in all parts. They rest on the laws of counts.
-use mathlib.Core.Path.{_≡_, refl, _∙_}
+use mathlib.Core.Path.{_≡_, _∙_}
 use Prim.Native.Nat.{ℕ, _+_, _≤_}
 use native.Mathlib.Omega.{arith}
 use lib.Dec.{ltb}

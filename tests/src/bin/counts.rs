@@ -15,7 +15,8 @@ const CHANNELS: usize = 16;
 const LARGE: usize = 128;
 
 /// A function with a figure: the shift of levels, the sides of two filters, the place of a map value beyond the peak, the
-/// side of a kernel, or the engine and the budget of a preview; a job call of no part stands beside the previews.
+/// side of a kernel, or the engine, the index and the budget of a preview. A job call of no part stands beside the previews,
+/// and a preview that is refused with 17, after all other checks.
 #[derive(Clone, Copy)]
 enum Counted {
     Levels { shift: usize },
@@ -24,10 +25,10 @@ enum Counted {
     Job { beyond: Option<usize> },
     WorstMap { side: usize },
     NoPart { engine: Engine },
-    Preview { engine: Engine, budget: usize },
+    Preview { engine: Engine, next: usize, budget: usize },
 }
 
-const COUNTED: [Counted; 18] = [
+const COUNTED: [Counted; 20] = [
     Counted::Levels { shift: 0 },
     Counted::Levels { shift: 8 },
     Counted::Levels { shift: 31 },
@@ -41,11 +42,13 @@ const COUNTED: [Counted; 18] = [
     Counted::WorstMap { side: 1 },
     Counted::WorstMap { side: 11 },
     Counted::NoPart { engine: Engine::Tiles },
-    Counted::Preview { engine: Engine::Tiles, budget: 0 },
-    Counted::Preview { engine: Engine::Tiles, budget: usize::MAX },
+    Counted::Preview { engine: Engine::Tiles, next: 0, budget: 0 },
+    Counted::Preview { engine: Engine::Tiles, next: 0, budget: usize::MAX },
+    Counted::Preview { engine: Engine::Tiles, next: usize::MAX, budget: 0 },
     Counted::NoPart { engine: Engine::Strips },
-    Counted::Preview { engine: Engine::Strips, budget: 0 },
-    Counted::Preview { engine: Engine::Strips, budget: usize::MAX },
+    Counted::Preview { engine: Engine::Strips, next: 0, budget: 0 },
+    Counted::Preview { engine: Engine::Strips, next: 0, budget: usize::MAX },
+    Counted::Preview { engine: Engine::Strips, next: usize::MAX, budget: 0 },
 ];
 
 impl Counted {
@@ -58,8 +61,9 @@ impl Counted {
             Self::Job { beyond: Some(place) } => format!("job of no tile, map value {place} beyond the peak"),
             Self::WorstMap { side } => format!("worst map, side {side}"),
             Self::NoPart { engine } => format!("job of no part, 64 channels, {engine:?}"),
-            Self::Preview { engine, budget: 0 } => format!("preview of no part, 64 channels, {engine:?}"),
-            Self::Preview { engine, .. } => format!("preview of all parts, 64 channels, {engine:?}"),
+            Self::Preview { engine, next: 0, budget: 0 } => format!("preview of no part, 64 channels, {engine:?}"),
+            Self::Preview { engine, next: 0, .. } => format!("preview of all parts, 64 channels, {engine:?}"),
+            Self::Preview { engine, .. } => format!("preview that is refused with 17, 64 channels, {engine:?}"),
         }
     }
 
@@ -80,7 +84,7 @@ impl Counted {
             Self::Job { beyond } => job(beyond, calls),
             Self::WorstMap { side } => worst_map(side, calls),
             Self::NoPart { engine } => no_part(engine, calls),
-            Self::Preview { engine, budget } => preview(engine, budget, calls),
+            Self::Preview { engine, next, budget } => preview(engine, (next, budget), calls),
         }
     }
 }
@@ -138,13 +142,14 @@ fn no_part(engine: Engine, calls: usize) {
     }
 }
 
-fn preview(engine: Engine, budget: usize, calls: usize) {
+fn preview(engine: Engine, (next, budget): (usize, usize), calls: usize) {
     let (map, kernel) = (vec![1; 64 * LARGE * LARGE], vec![1; 64 * 64 * 9]);
     let (output, scratch) = (vec![0; 64 * LARGE * LARGE], [0; 3072]);
     for _ in 0..calls {
-        let preview = engine.preview(&CHANNELS_64, (0, budget), (&map, &kernel), &output, &scratch);
+        let preview = engine.preview(&CHANNELS_64, (next, budget), (&map, &kernel), &output, &scratch);
+        let number = if next == 0 { 0 } else { 17 };
         let values = if budget == 0 { 0 } else { 64 * LARGE * LARGE };
-        assert_eq!((preview.answer.number, preview.values), (0, values));
+        assert_eq!((preview.answer.number, preview.values), (number, values));
     }
 }
 

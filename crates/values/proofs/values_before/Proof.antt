@@ -3,7 +3,6 @@ use mathlib.Core.Path.{_≡_, ap, _∙_}
 use Prim.Native.Nat.{_/_, _%_, _<_, _≤_}
 use native.Mathlib.Nat.{mod-lt}
 use native.Mathlib.Omega.{arith}
-use borrow.Author.Needs.{needs}
 use Rattle.base.specs.Number.{ceilingDiv}
 use Rattle.layer.specs.declared.shape.Layer.{Layer}
 use Rattle.layer.specs.Planned.{Planned}
@@ -11,7 +10,8 @@ use Rattle.layer.specs.Shape.{span}
 use Rattle.layer.specs.TileSizeLaws.{rows-wanted, columns-wanted, parts-high}
 use Rattle.checks.specs.declared.method.Method.{Method}
 use Rattle.values.specs.PartSize.{partHeight, partWidth, partsDown, partsAcross}
-use Rattle.values.specs.PartSizeLaws.{height-range, width-range, down-some, across-some}
+use Rattle.values.specs.PartSizeLaws.{height-range, width-range}
+use Rattle.values.specs.BeforeLaws.{down-some, across-some}
 use Rattle.values.proofs.Found.{Found, found-plane, found-rows, found-through, found-left, found-values}
 use Rattle.values.proofs.values_before.Statement.{statement}
 use Rattle.values.proofs.values_before.Tie as tie

@@ -1,5 +1,4 @@
 -- `values_up_to`: at most 64 planes of 2,058 by 2,058 values, and one plane more, so nothing wraps.
-use mathlib.Core.Path.{refl}
 use Prim.Native.Nat.{_+_, _*_, _-_, _≤_}
 use native.Mathlib.Nat.{mul-le-mul}
 use native.Mathlib.Omega.{arith}
