@@ -34,11 +34,21 @@ fn budgets(left: usize) -> [usize; 11] {
     [0, 1, 2, left / 2, left.saturating_sub(1), left, left + 1, 1 << 16, 1 << 32, 1 << 63, usize::MAX]
 }
 
+/// A layer of a few parts at least, now and then of any count.
+fn some_parts(random: &mut Random, kind: usize, engine: Engine, field: usize) -> Layer {
+    loop {
+        let layer = draw::any_layer(random, kind, field, 4, 150);
+        if engine.total(&layer) >= 4 || random.once_in(16) {
+            return layer;
+        }
+    }
+}
+
 fn as_many_as_the_call_stores(test: &'static str, kind: usize, engine: Engine, field: usize) {
     let mut parts_left = 0;
     for trial in 0..60 {
         let mut random = Random::new(test, trial);
-        let layer = draw::any_layer(&mut random, kind, field, 4, 120);
+        let layer = some_parts(&mut random, kind, engine, field);
         let mut call = draw::call(&mut random, engine, layer);
         let buffers = draw::buffers(&mut random, &call);
         call.next = random.below(call.total() + 1);
@@ -55,16 +65,26 @@ fn as_many_as_the_call_stores(test: &'static str, kind: usize, engine: Engine, f
 
 for_kinds_and_engines!(as_many_as_the_call_stores, "previews");
 
+/// A layer of some parts, and not many.
+fn few_parts(random: &mut Random, trial: usize) -> (Engine, Layer) {
+    let (kind, engine, field) = in_turn(trial);
+    loop {
+        let layer = draw::any_layer(random, kind, field, 3, 60);
+        if (2..24).contains(&engine.total(&layer)) {
+            return (engine, layer);
+        }
+    }
+}
+
 /// Every index with every budget, one above the total among both.
 #[test]
 fn every_index_with_every_budget() {
     for trial in 0..60 {
         let mut random = Random::new("previews, every index", trial);
-        let (kind, engine, field) = in_turn(trial);
-        let layer = draw::any_layer(&mut random, kind, field, 3, 60);
+        let (engine, layer) = few_parts(&mut random, trial);
         let mut call = draw::call(&mut random, engine, layer);
         let buffers = draw::buffers(&mut random, &call);
-        let most = (call.total() + 1).min(24);
+        let most = call.total() + 1;
         for (next, budget) in (0..=most).flat_map(|next| (0..=most).map(move |budget| (next, budget))) {
             (call.next, call.budget) = (next, budget);
             checked::preview(&call, &buffers);
@@ -136,8 +156,8 @@ fn refused(preview: Preview, call: &Call, number: usize) {
     assert_eq!(preview, Preview { answer, values: 0 });
 }
 
-/// Previews with budgets that are not taken, then the preview of each call, refused calls among them: those of the calls add up to
-/// all outputs.
+/// Previews with budgets that are not taken, and calls, refused ones among them: what is counted for each call adds up to all
+/// outputs.
 fn list(test: &'static str, kind: usize, engine: Engine, field: usize) {
     for trial in 0..60 {
         let mut random = Random::new(test, trial);
@@ -151,9 +171,9 @@ fn list(test: &'static str, kind: usize, engine: Engine, field: usize) {
             if random.once_in(3) {
                 list.refuse(&mut random);
             }
-            let before = list.call.clone();
+            let next = list.call.next;
             done = list.advance(&mut random, None).done;
-            let made = Call { next: before.next, ..list.call.clone() };
+            let made = Call { next, ..list.call.clone() };
             values += checked::preview(&made, &list.buffers).values;
         }
         assert_eq!(values, layer.outputs * layer.rows * layer.columns, "{layer:?}");
@@ -168,7 +188,7 @@ mod lists {
     for_kinds_and_engines!(list, "previews, lists");
 }
 
-/// 64 channels of 512 by 512, from every channel on and over the borders of channels.
+/// 64 channels of 512 by 512: from drawn indices on, over the borders of channels, and whole.
 #[test]
 fn large_layers() {
     for (trial, (engine, field)) in ENGINES_AND_FIELDS.into_iter().enumerate() {
