@@ -43,7 +43,7 @@ fn acceptance(layer: Layer, next: usize, count: usize, done: bool) -> Progress
     }
 }
 
-// Of the output and of scratch, their lengths are given.
+// What a call of the job by that method with that budget answers. Of output and scratch the lengths are given.
 pub(crate) fn answer_by(
     job: Job,
     method: Method,

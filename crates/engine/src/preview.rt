@@ -1,4 +1,5 @@
-// Trying a budget: what a call of the job would answer, and how many output values it would store. Output and scratch are lent to be read.
+// Trying a budget: what a call of the job would answer, and how many output values it would store. Output and scratch are shared slices, so nothing is
+// written.
 use crate::answer::answer_by;
 use crate::job::Job;
 use crate::job::Progress;
@@ -16,7 +17,7 @@ pub struct Preview {
 }
 
 impl Job {
-    // Nothing is written, whatever is answered.
+    // What `advance_by` would answer, and how many values it would store.
     pub fn preview_by(
         self,
         method: Method,
