@@ -13,7 +13,7 @@ use Rattle.layer.specs.declared.shape.Layer.{Layer}
 use Rattle.layer.specs.Shape.{outputCount}
 use Rattle.checks.specs.Engine.{Engine, Lawful}
 use Rattle.values.specs.Values.{inParts, valuesIn}
-use Rattle.values.specs.ValuesLaws.{values-none, values-then, values-all}
+use Rattle.values.specs.ValuesLaws.{values-places, values-none, values-then, values-all}
 use Rattle.engine.specs.declared.job.Job.{Job}
 use Rattle.engine.specs.declared.job.Progress.{Progress}
 use Rattle.engine.specs.declared.preview.Preview.{Preview}
@@ -49,10 +49,7 @@ module _ {engine : Engine} (call : Call engine) where
   -- where it is accepted, the values are the places of the output buffer at which it stores a direct sum
   pub stored-places : Lawful engine → call .progress .code ≡ 0
       → stored ≡ counted (length (call .output)) (inParts engine (call .job .layer) (call .job .next) (call .progress .job .next))
-  unfolding valuesIn
-  stored-places lawful e =
-      ap (λ (n : ℕ). counted n (inParts engine (call .job .layer) (call .job .next) (call .progress .job .next)))
-      (sym (call-callable call lawful e .output-length))
+  stored-places lawful e = values-places engine (call .job .layer) (length (call .output)) _ _ (call-callable call lawful e .output-length)
 
 -- a preview answers what the call answers, and the values that it stores
 module _ {engine : Engine} (step : TriedCall engine) where

@@ -1,5 +1,5 @@
 -- Laws of the values in parts, of any engine: in no part, in two runs of parts in a row, and in all parts. They rest on the laws of counts.
-use mathlib.Core.Path.{_≡_, _∙_}
+use mathlib.Core.Path.{_≡_, sym, ap, _∙_}
 use Prim.Native.Nat.{ℕ, _+_, _≤_}
 use native.Mathlib.Omega.{arith}
 use lib.Dec.{ltb}
@@ -13,6 +13,11 @@ use Rattle.checks.specs.Engine.{Engine, Lawful}
 use Rattle.values.specs.Values.{inParts, valuesIn}
 
 module _ (engine : Engine) (l : Layer) where
+  -- in a buffer of M·h·w values they are counted over its places
+  pub values-places : (places from to : ℕ) → places ≡ outputCount l → valuesIn engine l from to ≡ counted places (inParts engine l from to)
+  unfolding valuesIn
+  values-places places from to same = ap (λ (n : ℕ). counted n (inParts engine l from to)) (sym same)
+
   -- those in the parts before `to`
   abbrev before : (to : ℕ) → ℕ
   before to = counted (outputCount l) (λ p. ltb (engine .partOf l p) to)
