@@ -1,4 +1,6 @@
 // The bench program: reads one layer with its map and kernel from standard input, and writes its answer to standard output.
+#![tactic(auto)]
+
 use bench_text::answer::answer;
 use libc::{STDIN_FILENO, STDOUT_FILENO};
 

@@ -1,5 +1,7 @@
 // Runs the library and writes what it answers and leaves: the transform pair, the chart cases, jobs in budgets with refused calls between.
 // `stdout` beside src/ is what it must write; tests/ writes it again from direct sums.
+#![tactic(auto)]
+
 mod charts;
 mod jobs;
 mod print;

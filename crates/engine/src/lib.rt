@@ -1,4 +1,6 @@
 // Whole runs, jobs that advance by a budget of parts, tiles or strips, and previews of what a budget would do.
+#![tactic(auto)]
+
 ghost use Rattle.layer.specs.Shape.{tile_total};
 ghost use Rattle.layer.specs.Strip.{strip_total};
 ghost use Rattle.checks.specs.Engine.{tile_engine, strip_engine, engine_of};

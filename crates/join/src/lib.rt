@@ -1,5 +1,7 @@
 // Two filters joined: one kernel for the second of two CONV layers over the first. `join` checks the layers, the lengths and every weight
 // first, and leaves a refused kernel as it was.
+#![tactic(auto)]
+
 ghost use Rattle.std.specs.Prelude.{◌≡◌, true, length};
 ghost use Rattle.layer.specs.Shape.{kernel_count};
 ghost use Rattle.joined.specs.Joinable.{Joinable};

@@ -1,5 +1,7 @@
 // Levels for the screen: each output is divided by 2^shift to the nearest whole number, halves going away from zero, and clamped.
 // `levels` checks the shift, the bound and the two lengths first, and leaves refused levels as they were.
+#![tactic(auto)]
+
 ghost use Rattle.std.specs.Prelude.{◌≡◌, ◌≤◌, length};
 ghost use Rattle.levels.specs.Answer.{levels_code, levels_of, levels_left};
 

@@ -1,4 +1,6 @@
 // Writing lines into a buffer: fixed words, numbers, rows of numbers. Each function writes from `at` on and answers with the place after.
+#![tactic(auto)]
+
 ghost use Rattle.std.specs.Prelude.{cond, [], ◌∷◌, ◌++◌, ◌+◌, ◌*◌, ◌≤◌, ◌<◌, length};
 ghost use Rattle.lines.specs.Lines.{decimal, signed_decimal, numbered, unreadable, rows_text};
 ghost use Rattle.lines.specs.Writing.{Appended};

@@ -1,5 +1,7 @@
 // The check of the output channels: whether none is blank, and for each the load, which is the peak times the sum of the sizes of all weights that
 // reach it, in TCONV times the greatest group's.
+#![tactic(auto)]
+
 ghost use Rattle.std.specs.Prelude.{◌≡◌, not, ◌*◌, ◌<◌, ◌≤◌, leb};
 ghost use Rattle.load.specs.Load.{size_total, load, load_limit, loads_fit};
 ghost use Rattle.load.specs.Blank.{blank, none_blank};

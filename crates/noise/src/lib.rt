@@ -1,4 +1,6 @@
 // Noise from the sealed seed: `fill` fills a map with the values of one draw after another.
+#![tactic(auto)]
+
 ghost use Rattle.std.specs.Prelude.{◌≡◌};
 ghost use Rattle.noise.specs.Draw.{noise_left, last_seed};
 

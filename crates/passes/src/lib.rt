@@ -2,6 +2,8 @@
 // many lanes as rows) and the corner of a tile (the other rows 0).
 // At level i the n rows are 2^i blocks of n / 2^i rows. The forward transform goes up the levels: its pass splits every block into two
 // (textbooks: decimation in frequency). The inverse goes down: its pass joins the two halves of every block (decimation in time).
+#![tactic(auto)]
+
 ghost use Rattle.std.specs.Prelude.{◌≡◌, ◌+◌, ◌-◌, ◌*◌, ◌^◌, ◌<◌, length};
 ghost use Rattle.passes.specs.Butterfly.{Bound, AtMost, StageSizes};
 ghost use Rattle.passes.specs.Halving.{Forward, Inverse, Filled};

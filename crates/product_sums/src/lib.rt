@@ -1,5 +1,7 @@
 // Two lists of calls that are made, one of each kind, each by a method of its own: for paired layers the two product sums agree, by the theorem
 // on lists of calls.
+#![tactic(auto)]
+
 ghost use Rattle.std.specs.Prelude.{◌≡◌, true, ◌&&◌, eqb, length};
 ghost use Rattle.checks.specs.Engine.{engine_of};
 ghost use Rattle.checks.specs.Checks.{run_code};

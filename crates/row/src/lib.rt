@@ -3,6 +3,8 @@
 // of `passes` at the root 4. That is the root to the power 16 · 11, so that the frequency k at the root 4 is 11 k at the root to the power 16.
 // The words are brought down and become residues as in `spectrum`. 131,074 is twice the modulus, which bounds the words that are lent; 262,148 is
 // four times the modulus, which bounds those that are brought down. The length is 2^8.
+#![tactic(auto)]
+
 ghost use Rattle.std.specs.Prelude.{◌≡◌, ◌*◌, length, get_or};
 ghost use Rattle.fermat.specs.Field.{modulus};
 ghost use Rattle.passes.specs.Butterfly.{AtMost};

@@ -1,4 +1,6 @@
 // Whole sequences: one to eight layers, each followed by its levels. Every check comes before the first layer is run.
+#![tactic(auto)]
+
 ghost use Rattle.sequence.specs.Sequenced.{Sequenced};
 
 use checks::calls::Checked;

@@ -1,4 +1,6 @@
 // The transforms of a tile by the number of its field: from loaded words, at most twice the modulus, to words that are multiplied, and back.
+#![tactic(auto)]
+
 ghost use Rattle.std.specs.Prelude.{◌≡◌, ◌*◌, ◌≤◌, length};
 ghost use Rattle.fermat.specs.Field.{modulus, transform_length};
 ghost use Rattle.passes.specs.Butterfly.{AtMost};

@@ -1,5 +1,7 @@
 // The steps of a sequence, the part of the kernels that each has, and all checks of a sequence: here 21 to 22, which read the steps and the kernels
 // alone; in `answer` those of what is lent.
+#![tactic(auto)]
+
 ghost use Rattle.std.specs.Prelude.{◌≡◌};
 ghost use Rattle.steps.specs.Steps.{step_at};
 ghost use Rattle.steps.specs.Answer.{steps_code};

@@ -1,5 +1,7 @@
 // A finished tile is stored: its wanted places are written, and no others. The rows and columns of the output that the tile holds are
 // computed; then the run of words of each row is stored. Both serve parts of other sides too.
+#![tactic(auto)]
+
 ghost use Rattle.std.specs.Prelude.{◌≡◌, ℕ, ◌+◌, ◌*◌, ◌-◌, ◌≤◌, ◌<◌, min, pos, length};
 ghost use Rattle.algebra.specs.Places.{Written};
 ghost use Rattle.base.specs.Number.{ceiling_div};

@@ -1,4 +1,6 @@
 // The transform pair: `transform` and `inverse` check the field and the words, and leave refused words as they were; each undoes the other.
+#![tactic(auto)]
+
 ghost use Rattle.std.specs.Prelude.{◌≡◌};
 ghost use Rattle.fermat.specs.Transform.{transform_in, inverse_in};
 ghost use Rattle.transform.specs.Answer.{transform_code, transformed, inverted, row, Accepted};

@@ -1,4 +1,6 @@
 // How many output values lie in parts of a layer, tiles or strips, by their rows and columns: no place is visited.
+#![tactic(auto)]
+
 ghost use Rattle.std.specs.Prelude.{◌≡◌, ◌+◌, ◌*◌, ◌-◌, ◌≤◌};
 ghost use Rattle.layer.specs.Planned.{Planned};
 ghost use Rattle.checks.specs.Engine.{engine_of};

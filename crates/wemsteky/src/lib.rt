@@ -1,4 +1,6 @@
 // The C interface, declared in include/wemsteky.h. Each function takes its numbers apart, calls the library and puts the answer together.
+#![tactic(auto)]
+
 ghost use Rattle.std.specs.Prelude.{◌≡◌, length};
 ghost use Rattle.transform.specs.Answer.{transform_code, transformed, inverted};
 ghost use Rattle.layer.specs.Shape.{tile_total};

@@ -1,5 +1,7 @@
 // The window of a map channel as a tile of N by N words, and one row of a window as n words. Of the map only the values that the window shows are
 // read.
+#![tactic(auto)]
+
 ghost use Rattle.std.specs.Prelude.{◌≡◌, ℕ, ◌+◌, ◌-◌, ◌*◌, ◌/◌, ◌≤◌, ◌<◌, T, pos, length, get_or};
 ghost use Rattle.algebra.specs.Places.{Run};
 ghost use Rattle.fermat.specs.Field.{modulus, transform_length};

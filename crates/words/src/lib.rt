@@ -1,4 +1,6 @@
 // Reading: the words of a text, one after the other, and the numbers that they are. A text may be cut off: see `words_from`.
+#![tactic(auto)]
+
 ghost use Rattle.std.specs.Prelude.{◌≡◌, true, false, not, ℕ, ◌≤◌, ◌<◌, eqb, length, get_or, take, drop};
 ghost use Rattle.words.specs.Words.{is_separator, words_of, is_figure, is_value, figures_of, values_of};
 ghost use Rattle.words.specs.Reading.{NextWord, WordsRead};

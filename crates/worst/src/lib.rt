@@ -1,5 +1,7 @@
 // A map to show for a range refusal: one within the peak that makes an output of a CONV layer equal the greatest load, where the window of some
 // cropped output lies whole inside the map.
+#![tactic(auto)]
+
 ghost use Rattle.std.specs.Prelude.{◌≡◌, length};
 ghost use Rattle.worst.specs.Answer.{worst_code, worst_left};
 
