@@ -17,7 +17,7 @@ use load::judge_channels;
 use load::offender::{Offender, first_offender};
 
 // What checks find.
-#[derive(Drop)]
+#[derive(Clone, Copy)]
 pub struct Checked {
     pub code: usize, // the number of the first rule broken, or 0
     pub offender: Offender, // the first map value beyond the peak with 15 and 25; zeros with any other number

@@ -7,7 +7,7 @@ ghost use Rattle.checks.specs.Engine.{engine_of};
 use layer::shape::Layer;
 use layer::{sizes, strips};
 
-#[derive(Drop)]
+#[derive(Clone, Copy)]
 pub enum Method {
     Tiles,
     Strips,

@@ -11,14 +11,14 @@ use checks::method::{Method, scratch_words};
 use layer::shape::Layer;
 use load::offender::Offender;
 
-#[derive(Drop)]
+#[derive(Clone, Copy)]
 pub struct Job {
     pub layer: Layer,
     pub next: usize, // the index of the next part, a tile or a strip
 }
 
 // What a call answers.
-#[derive(Drop)]
+#[derive(Clone, Copy)]
 pub struct Progress {
     pub code: usize, // the number of the first rule broken, or 0
     pub count: usize, // parts finished in the call

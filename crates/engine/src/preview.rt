@@ -10,7 +10,7 @@ use checks::method::Method;
 use values::values_in;
 
 // What a preview answers.
-#[derive(Drop)]
+#[derive(Clone, Copy)]
 pub struct Preview {
     pub progress: Progress, // what the call would answer
     pub values: usize, // output values that it would store, 0 where it would be refused

@@ -6,14 +6,14 @@ ghost use Rattle.joined.specs.Products.{plane_of, row_of, place_of};
 use layer::shape::Layer;
 
 // A plane of a kernel, or a row of a plane: the flat place of its first weight, and the kernel's side.
-#[derive(Drop)]
+#[derive(Clone, Copy)]
 pub struct Part {
     pub start: usize,
     pub side: usize,
 }
 
 // A place of the joined kernel.
-#[derive(Drop)]
+#[derive(Clone, Copy)]
 pub struct Place {
     pub output: usize, // m, the output channel
     pub input: usize, // c, the map channel

@@ -6,7 +6,7 @@ ghost use Rattle.layer.specs.Shape.{grid_step, tile_total, tile_channel, tile_ro
 use crate::shape::Layer;
 use crate::sizes;
 
-#[derive(Drop)]
+#[derive(Clone, Copy)]
 pub struct Place {
     pub channel: usize, // of the output
     pub row: usize, // of tiles, or the output row of a strip

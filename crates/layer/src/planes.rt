@@ -5,7 +5,7 @@ ghost use Rattle.layer.specs.Direct.{plane_of};
 use crate::shape::Layer;
 
 // The kernel's planes that reach an output channel, one for each map channel.
-#[derive(Drop)]
+#[derive(Clone, Copy)]
 pub struct Planes {
     pub first: usize, // the plane of map channel 0
     pub step: usize, // how far a plane lies from the one before

@@ -1,7 +1,7 @@
 // The figures of a layer and of its plan.
 
 // A layer. The comments give the letters of the request.
-#[derive(Drop)]
+#[derive(Clone, Copy)]
 pub struct Layer {
     pub kind: usize, // 0 is CONV, 1 is TCONV
     pub field: usize, // 4 or 5
@@ -22,7 +22,7 @@ pub struct Layer {
 }
 
 // What the planner answers: the number of the first rule broken, or 0 and the figures of the layer.
-#[derive(Drop)]
+#[derive(Clone, Copy)]
 pub struct Plan {
     pub code: usize,
     pub height: usize, // E, rows of the full output

@@ -8,7 +8,7 @@ use layer::planes::planes_to;
 use layer::shape::Layer;
 
 // The weights whose row leaves one remainder by `step` and whose column leaves another. By 1 there is one group, of all weights.
-#[derive(Drop)]
+#[derive(Clone, Copy)]
 pub struct Group {
     pub step: usize,
     pub row: usize,

@@ -15,7 +15,7 @@ pub mod offender;
 pub mod values;
 
 // What the check finds of one output channel, or of all of them.
-#[derive(Drop)]
+#[derive(Clone, Copy)]
 pub struct Judged {
     // a weight other than 0 reaches the channel, or each of them
     pub nonzero: bool,

@@ -8,7 +8,7 @@ use crate::values::{size, within_peak};
 use layer::shape::Layer;
 
 // A value beyond the peak; zeros where there is none.
-#[derive(Drop)]
+#[derive(Clone, Copy)]
 pub struct Offender {
     pub channel: usize,
     pub row: usize,

@@ -6,14 +6,14 @@ ghost use Rattle.passes.specs.Butterfly.{Multiple, Bound, TimesPower, StepMakes,
 
 // What a butterfly makes of two words u and v, with a power p of 2:
 // Plain u + v and u - v, Forward u + v and (u - v) p, Inverse u + v / p and u - v / p.
-#[derive(Drop)]
+#[derive(Clone, Copy)]
 pub enum Step {
     Plain,
     Forward,
     Inverse,
 }
 
-#[derive(Drop)]
+#[derive(Clone, Copy)]
 pub struct Pair {
     pub low: u64,
     pub high: u64,

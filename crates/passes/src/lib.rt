@@ -16,7 +16,7 @@ pub mod butterfly;
 pub mod order;
 
 // Which way a transform goes.
-#[derive(Drop)]
+#[derive(Clone, Copy)]
 pub enum Direction {
     Forward,
     Inverse,

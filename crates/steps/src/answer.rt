@@ -14,7 +14,7 @@ use checks::calls::{Checked, check_map, without_place};
 use layer::sizes;
 
 // The lengths of the buffers that a sequence writes.
-#[derive(Drop)]
+#[derive(Clone, Copy)]
 pub struct Room {
     pub first: usize, // the first work map
     pub second: usize, // the second work map
@@ -24,7 +24,7 @@ pub struct Room {
 }
 
 // What the layers need.
-#[derive(Drop)]
+#[derive(Clone, Copy)]
 struct Most {
     outputs: usize, // the outputs of the layer that has the most
     scratch: usize, // the greatest 3N²

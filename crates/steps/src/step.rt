@@ -7,7 +7,7 @@ use layer::numbers::layer_of;
 use layer::shape::Layer;
 
 // A layer and the levels that its outputs become.
-#[derive(Drop)]
+#[derive(Clone, Copy)]
 pub struct Step {
     pub layer: Layer,
     pub shift: usize,

@@ -19,7 +19,7 @@ use layer::{place, sizes};
 use spectrum::value::{offset_of, value_of};
 
 // The rows or the columns of the output that a part of a line holds.
-#[derive(Drop)]
+#[derive(Clone, Copy)]
 pub struct Held {
     pub first: usize, // the first of them
     pub count: usize,

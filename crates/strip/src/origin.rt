@@ -10,7 +10,7 @@ use layer::strips::{strip_length, strip_place};
 use window::shown::{Shown, shown_of};
 
 // The output channel of a strip, the row and the column of the stride-1 grid that its windows begin at, and what their rows show of a map row.
-#[derive(Drop)]
+#[derive(Clone, Copy)]
 pub struct StripOrigin {
     pub channel: usize,
     pub row: usize,

@@ -9,7 +9,7 @@ use layer::shape::Layer;
 use layer::{place, sizes};
 
 // The output channel of a tile, and the row and the column of the stride-1 grid that its windows begin at.
-#[derive(Drop)]
+#[derive(Clone, Copy)]
 pub struct Origin {
     pub channel: usize,
     pub row: usize,

@@ -10,7 +10,7 @@ use layer::shape::Layer;
 
 // What each row of a window shows of a map row: `count` values from the value `first` on, `spacing` places apart from the place
 // `begin` on.
-#[derive(Drop)]
+#[derive(Clone, Copy)]
 pub struct Shown {
     pub spacing: usize,
     pub first: usize,

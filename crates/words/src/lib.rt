@@ -10,14 +10,14 @@ use crate::number::{signed_number, whole_number};
 mod number;
 
 // Where a word stands: the bytes from `from` up to `to`. There is no word where the two are equal.
-#[derive(Drop)]
+#[derive(Clone, Copy)]
 pub struct Span {
     pub from: usize,
     pub to: usize,
 }
 
 // Whether the words were numbers, and where the reading stands.
-#[derive(Drop)]
+#[derive(Clone, Copy)]
 pub struct Read {
     pub valid: bool,
     pub at: usize,

@@ -6,7 +6,7 @@ use base::number::lesser;
 use base::rules::is_inside;
 
 // A number that may not have been there.
-#[derive(Drop)]
+#[derive(Clone, Copy)]
 pub struct Value {
     pub valid: bool,
     pub value: i16,

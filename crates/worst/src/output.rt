@@ -9,7 +9,7 @@ use layer::shape::Layer;
 use load::size_total;
 
 // One place of the full output.
-#[derive(Drop)]
+#[derive(Clone, Copy)]
 pub struct Output {
     pub channel: usize, // m
     pub row: usize, // e
