@@ -6,7 +6,6 @@ use Rattle.algebra.specs.Places.{Run}
 use Rattle.passes.specs.Butterfly.{Relation, StepMakes, Pairing}
 use Rattle.passes.specs.Halving as Lanes
 use Rattle.passes.specs.declared.butterfly.Step.{Step}
-use Rattle.passes.specs.declared.butterfly.Step.TheVariants as Step
 use Rattle.passes.specs.declared.Direction.{Direction}
 use Rattle.passes.specs.declared.Direction.TheVariants.{Forward, Inverse}
 
