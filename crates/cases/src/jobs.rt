@@ -4,11 +4,19 @@ ghost use Rattle.std.specs.Prelude.{◌≤◌, length};
 use crate::print;
 use engine::job::Job;
 use layer::shape::Layer;
+use std::io::{self, Print};
 use vectors::sequence::draw_values;
 use vectors::text::line;
 
 // One call: what it answers, and the output that it leaves. Scratch is lent anew to each call, dirty and one word longer than is used in F_5.
-fn stop(job: Job, budget: usize, map: &[i16], kernel: &[i16], output: &mut [i32]) -> Job
+fn stop(
+    out: &impl Print,
+    job: Job,
+    budget: usize,
+    map: &[i16],
+    kernel: &[i16],
+    output: &mut [i32],
+) -> io::Result<Job>
     requires { length output.old ≤ 1024 }
 {
     let mut scratch = [7u64; 12289];
@@ -20,14 +28,20 @@ fn stop(job: Job, budget: usize, map: &[i16], kernel: &[i16], output: &mut [i32]
         progress.job.next as u64,
         progress.done as u64,
     ];
-    line(b"budget # code # count # next # done # \n", &answer);
-    print::rows(output, progress.job.layer.columns);
-    progress.job
+    line(out, b"budget # code # count # next # done # \n", &answer)?;
+    print::rows(out, output, progress.job.layer.columns)?;
+    Ok(progress.job)
 }
 
 // A whole job: none of its tiles, one, one in a call without a map, two, all that are left, and one more when all is done. Then a job whose
 // index is above the total.
-fn in_budgets(layer: Layer, map: &[i16], kernel: &[i16], output: &mut [i32])
+fn in_budgets(
+    out: &impl Print,
+    layer: Layer,
+    map: &[i16],
+    kernel: &[i16],
+    output: &mut [i32],
+) -> io::Result<()>
     requires { length output.old ≤ 1024 }
 {
     let budgets = [0usize, 1, 1, 2, 18446744073709551615, 1];
@@ -35,15 +49,16 @@ fn in_budgets(layer: Layer, map: &[i16], kernel: &[i16], output: &mut [i32])
     let mut i = 0;
     while i < 6 {
         let values = if i == 2 { 0 } else { map.len() };
-        job = stop(job, budgets[i], &map[0..values], kernel, output);
+        job = stop(out, job, budgets[i], &map[0..values], kernel, output)?;
         i += 1;
     }
     job.next = 18446744073709551615;
-    stop(job, 1, map, kernel, output);
+    stop(out, job, 1, map, kernel, output)?;
+    Ok(())
 }
 
 // CONV in F_4, cropped to 2 rows of 8: 2 channels, 4 tiles.
-fn conv() {
+fn conv(out: &impl Print) -> io::Result<()> {
     let layer = Layer {
         kind: 0,
         field: 4,
@@ -67,11 +82,11 @@ fn conv() {
     let mut output = [7i32; 32];
     let seed = draw_values(&mut map, 100, 1);
     draw_values(&mut kernel, 1, seed);
-    in_budgets(layer, &map, &kernel, &mut output);
+    in_budgets(out, layer, &map, &kernel, &mut output)
 }
 
 // TCONV in F_5, cropped to 1 row of 70: 2 channels, 4 tiles.
-fn tconv() {
+fn tconv(out: &impl Print) -> io::Result<()> {
     let layer = Layer {
         kind: 1,
         field: 5,
@@ -95,10 +110,10 @@ fn tconv() {
     let mut output = [7i32; 140];
     let seed = draw_values(&mut map, 1000, 2);
     draw_values(&mut kernel, 1000, seed);
-    in_budgets(layer, &map, &kernel, &mut output);
+    in_budgets(out, layer, &map, &kernel, &mut output)
 }
 
-pub fn run() {
-    conv();
-    tconv();
+pub fn run(out: &impl Print) -> io::Result<()> {
+    conv(out)?;
+    tconv(out)
 }

@@ -6,8 +6,10 @@ mod charts;
 mod jobs;
 mod print;
 
-fn main() {
-    vectors::pairs::run();
-    charts::run();
-    jobs::run();
+use std::io;
+
+fn main(rt: HostRuntime) -> io::Result<()> {
+    vectors::pairs::run(&rt)?;
+    charts::run(&rt)?;
+    jobs::run(&rt)
 }

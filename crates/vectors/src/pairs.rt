@@ -4,7 +4,7 @@ ghost use Rattle.std.specs.Prelude.{◌<◌, ◌≤◌, length};
 
 use crate::sequence::next;
 use crate::text::line;
-use libc::STDOUT_FILENO;
+use std::io::{self, Print};
 
 const VECTORS: u64 = 8;
 
@@ -54,45 +54,51 @@ fn vector(words: &mut [u64], number: u64, m: u64, seed: u64) -> u64
     seed
 }
 
-fn print_words(words: &[u64]) {
+fn print_words(out: &impl Print, words: &[u64]) -> io::Result<()> {
     let mut i = 0;
     while i < words.len() {
-        io::print_decimal(STDOUT_FILENO, words[i]);
-        io::write_all(STDOUT_FILENO, b" ");
+        print!(out; "{} ", words[i])?;
         i += 1;
     }
-    io::write_all(STDOUT_FILENO, b"\n");
+    out.write_all(b"\n")
 }
 
 // The transform of the words and their inverse. The inverse is taken twice: the first undoes the transform.
-fn print_pair(field: usize, words: &mut [u64]) {
+fn print_pair(out: &impl Print, field: usize, words: &mut [u64]) -> io::Result<()> {
     transform::transform(field, words);
-    print_words(words);
+    print_words(out, words)?;
     transform::inverse(field, words);
     transform::inverse(field, words);
-    print_words(words);
+    print_words(out, words)
 }
 
 // One vector, its transform and its inverse.
-fn run_vector(field: usize, words: &mut [u64], number: u64, seed: u64) -> u64
+fn run_vector(
+    out: &impl Print,
+    field: usize,
+    words: &mut [u64],
+    number: u64,
+    seed: u64,
+) -> io::Result<u64>
     requires { 1 < length words.old }
 {
     let state = vector(words, number, modulus(field), seed);
-    line(b"field # vector #\n", &[field as u64, number]);
-    print_words(words);
-    print_pair(field, words);
-    state
+    line(out, b"field # vector #\n", &[field as u64, number])?;
+    print_words(out, words)?;
+    print_pair(out, field, words)?;
+    Ok(state)
 }
 
-fn run_field(field: usize, words: &mut [u64])
+fn run_field(out: &impl Print, field: usize, words: &mut [u64]) -> io::Result<()>
     requires { 1 < length words.old }
 {
     let mut seed = field as u64;
     let mut number = 0;
     while number < VECTORS {
-        seed = run_vector(field, words, number, seed);
+        seed = run_vector(out, field, words, number, seed)?;
         number += 1;
     }
+    Ok(())
 }
 
 fn set_last(words: &mut [u64], word: u64) {
@@ -104,38 +110,39 @@ fn set_last(words: &mut [u64], word: u64) {
 }
 
 // Calls on words, the last of which becomes `word`: the answers of both routines, and the words that they leave.
-fn refuse(field: usize, words: &mut [u64], word: u64) {
+fn refuse(out: &impl Print, field: usize, words: &mut [u64], word: u64) -> io::Result<()> {
     set_last(words, word);
     let code = transform::transform(field, words);
     let again = transform::inverse(field, words);
-    line(b"refused # # ", &[code as u64, again as u64]);
-    print_words(words);
+    line(out, b"refused # # ", &[code as u64, again as u64])?;
+    print_words(out, words)
 }
 
 // The same on the first `len` of 64 words 7.
-fn refuse_first(field: usize, len: usize, word: u64)
+fn refuse_first(out: &impl Print, field: usize, len: usize, word: u64) -> io::Result<()>
     requires { len ≤ 64 }
 {
     let mut words = [7u64; 64];
-    refuse(field, &mut words[..len], word);
+    refuse(out, field, &mut words[..len], word)
 }
 
-pub fn run() {
+pub fn run(out: &impl Print) -> io::Result<()> {
     let mut small = [0u64; 32];
-    run_field(4, &mut small);
+    run_field(out, 4, &mut small)?;
     let mut large = [0u64; 64];
-    run_field(5, &mut large);
-    refuse_first(0, 0, 0);
-    refuse_first(3, 31, 65537);
-    refuse_first(6, 64, 1);
-    refuse_first(18446744073709551615, 64, 1);
-    refuse_first(4, 0, 0);
-    refuse_first(4, 31, 65537);
-    refuse_first(4, 33, 1);
-    refuse_first(4, 64, 1);
-    refuse_first(5, 32, 1);
-    refuse_first(5, 63, 1);
-    refuse_first(4, 32, 65537);
-    refuse_first(4, 32, 18446744073709551615);
-    refuse_first(5, 64, 4294967297);
+    run_field(out, 5, &mut large)?;
+    refuse_first(out, 0, 0, 0)?;
+    refuse_first(out, 3, 31, 65537)?;
+    refuse_first(out, 6, 64, 1)?;
+    refuse_first(out, 18446744073709551615, 64, 1)?;
+    refuse_first(out, 4, 0, 0)?;
+    refuse_first(out, 4, 31, 65537)?;
+    refuse_first(out, 4, 33, 1)?;
+    refuse_first(out, 4, 64, 1)?;
+    refuse_first(out, 5, 32, 1)?;
+    refuse_first(out, 5, 63, 1)?;
+    refuse_first(out, 4, 32, 65537)?;
+    refuse_first(out, 4, 32, 18446744073709551615)?;
+    refuse_first(out, 5, 64, 4294967297)?;
+    Ok(())
 }
