@@ -10,8 +10,8 @@ use mir.Syntax.{w16, w64}
 use mir.Val.{SFits, to_z, of_z}
 use Rattle.algebra.specs.SizeLaws.{size_mul}
 use Rattle.joined.proofs.Totals.{fits-small}
-use Rattle.joined.proofs.sums.times.Statement.{statement}
-use Rattle.joined.proofs.sums.times.Tie as tie
+use Rattle.joined.proofs.sums.times.Goals as goal
+use Rattle.joined.proofs.sums.times.Goals.{Start}
 
 weight_small : {z : ℤ} → SFits w16 z → nat_abs z ≤ 32768
 weight_small {z} fits = nat_abs-le z {H = 32768} fits.sfits
@@ -19,23 +19,20 @@ weight_small {z} fits = nat_abs-le z {H = 32768} fits.sfits
 widened : {z : ℤ} → SFits w16 z → to_z w64 (of_z w64 (to_z w16 (of_z w16 z))) ≡ z
 widened {z} fits = rw (to_z-of_z fits) (to_z-of_z (fits-small z (omega (arith, weight_small fits))))
 
-product_small : (c : tie.Start) → nat_abs (c.args.x *ℤ c.args.y) ≤ 2 ^ 30
+product_small : (c : Start) → nat_abs (c.args.x *ℤ c.args.y) ≤ 2 ^ 30
 product_small c = rw (size_mul c.args.x c.args.y) (mul-le-mul (weight_small c.ranges.x) (weight_small c.ranges.y))
 
-cast-result : tie.Need-overflow-cast-result
-cast-result c = rw (to_z-of_z c.ranges.x) (fits-small _ (omega (arith, weight_small c.ranges.x)))
+pub overflow_cast-result : goal.overflow_cast-result
+overflow_cast-result c = rw (to_z-of_z c.ranges.x) (fits-small _ (omega (arith, weight_small c.ranges.x)))
 
-cast-result-2 : tie.Need-overflow-cast-result-2
-cast-result-2 c = rw (to_z-of_z c.ranges.y) (fits-small _ (omega (arith, weight_small c.ranges.y)))
+pub overflow_cast-result-2 : goal.overflow_cast-result-2
+overflow_cast-result-2 c = rw (to_z-of_z c.ranges.y) (fits-small _ (omega (arith, weight_small c.ranges.y)))
 
-mul-result : tie.Need-overflow-mul-result
-mul-result c = rw (widened c.ranges.x, widened c.ranges.y) (fits-small _ (omega (arith, product_small c)))
+pub overflow_mul-result : goal.overflow_mul-result
+overflow_mul-result c = rw (widened c.ranges.x, widened c.ranges.y) (fits-small _ (omega (arith, product_small c)))
 
-returns : tie.Need-returns
+pub returns : goal.returns
 returns c =
     let small = product_small c in
     let word = to_z-of_z (fits-small (c.args.x *ℤ c.args.y) (omega (arith, small))) in
     rw (widened c.ranges.x, widened c.ranges.y, word) (refl, small)
-
-pub times_spec : {M : Type 1} → statement M
-times_spec = tie.close (tie.spec cast-result cast-result-2 mul-result returns)
