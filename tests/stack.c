@@ -2,7 +2,7 @@
  * byte that no longer holds it tells. What the thread itself needs is measured with a call that does nothing, and taken off; the C library's functions
  * are bound before it starts, so that the work of binding them is not counted.
  *
- *     cc -std=c99 -O2 -Iinclude tests/stack.c target/staticlib/libwemsteky.a -lpthread -Wl,-z,now -o stack && ./stack
+ *     cc -std=c99 -O2 -Iinclude tests/stack.c crates/wemsteky/out/libwemsteky.a -lpthread -Wl,-z,now -o stack && ./stack
  */
 #define _GNU_SOURCE
 #include <pthread.h>

@@ -5,7 +5,7 @@ use std::io::{ErrorKind, Write};
 use std::process::{Child, Command, Stdio};
 use std::time::Duration;
 
-const PROGRAM: &str = concat!(env!("CARGO_MANIFEST_DIR"), "/../target/bin/bench");
+const PROGRAM: &str = concat!(env!("CARGO_MANIFEST_DIR"), "/../crates/bench/out/bench");
 
 /// The three kinds of answer.
 #[derive(Clone, Copy, Debug, PartialEq, Eq)]
@@ -39,7 +39,7 @@ fn start() -> Child {
     match command.spawn() {
         Ok(child) => child,
         Err(error) if error.kind() == ErrorKind::NotFound => {
-            panic!("{PROGRAM} is missing: run `rt check bench` in the repository's root first")
+            panic!("{PROGRAM} is missing: run `rt run` in crates/bench first")
         }
         Err(error) => panic!("{PROGRAM} does not start: {error}"),
     }
