@@ -7,7 +7,6 @@ use Rattle.std.proofs.Math.IntN.{zero-*ℤ}
 use Rattle.algebra.specs.Planes.{cell}
 use Rattle.algebra.specs.Sum.{sum}
 use Rattle.algebra.specs.SumLaws.{integers, sum_zero}
-use Rattle.algebra.specs.Every.{every}
 use Rattle.algebra.specs.EveryLaws.{every_at, every_cong, every_zero}
 use Rattle.layer.specs.declared.shape.Layer.{Layer}
 use Rattle.layer.specs.Direct.{full_at, plane_of}

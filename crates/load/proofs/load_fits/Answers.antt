@@ -1,0 +1,35 @@
+-- `load_fits`: the sum of all sizes decides where it is within the limit, and in CONV; else the greatest group does. It rests on the laws of the
+-- load.
+use mathlib.Core.Path.{sym, ap, ◌∙◌}
+use Prim.Native.Nat.{ℕ, ◌*◌, ◌≤◌}
+use native.Mathlib.Nat.{le_trans, mul-le-mul}
+use native.Mathlib.Omega.{arith}
+use borrow.Author.Tests.{le-leb, lt-leb}
+use lib.Dec.{leb}
+use Rattle.load.specs.Load.{size_total}
+use Rattle.load.specs.LoadLaws.{load-conv, load-tconv, load_most}
+use Rattle.load.proofs.load_fits.Goals as goal
+
+pub overflow_mul-peak : goal.overflow_mul-peak
+overflow_mul-peak c = omega (arith, mul-le-mul c.requires.weighted.0.peak_most c.requires.total_value.1)
+
+pub returns-then-peak-total : goal.returns-then-peak-total
+returns-then-peak-total c =
+    let a = c.args in
+    let within : a.layer.peak * size_total a.layer a.kernel.now a.m ≤ a.limit = omega (arith, rw c.requires.total_value.0 at c.if-peak-total.true) in
+    sym (le-leb _ _ (le_trans (load_most a.layer a.kernel.now a.m) within))
+
+pub returns-then-layer-eq0 : goal.returns-then-layer-eq0
+returns-then-layer-eq0 c =
+    let a = c.args in
+    sym (ap (λ (n : ℕ). leb n a.limit) (load-conv a.layer a.kernel.now a.m c.if-layer-eq0.true)
+    ∙ lt-leb _ _ (rw c.requires.total_value.0 at c.if-peak-total.false))
+
+pub overflow_mul-result : goal.overflow_mul-result
+overflow_mul-result c = omega (arith, mul-le-mul c.requires.weighted.0.peak_most c.greatest_group.ensures.1)
+
+pub returns : goal.returns
+returns c =
+    let a = c.args in
+    ap (λ (n : ℕ). leb n a.limit) (ap (λ (n : ℕ). a.layer.peak * n) c.greatest_group.ensures.0
+    ∙ sym (load-tconv a.layer a.kernel.now a.m c.if-layer-eq0.false))

@@ -1,0 +1,63 @@
+use mathlib.Core.Path.{◌≡◌, sym, ap, ◌∙◌}
+use Prim.Native.Nat.{◌<◌}
+use native.Mathlib.Omega.{arith}
+use borrow.Author.Rules.{sfits_of}
+use lib.IntN.{ℤ, pos}
+use lib.ListN.{length, get_or}
+use mir.Facts.{to_z-of_z}
+use mir.Syntax.{w16}
+use mir.Val.{to_z, of_z}
+use Rattle.load.specs.Offender.{side_of}
+use Rattle.load.proofs.Searches.{none_searched, value_searched, row_searched, channel_searched, all_searched, value_found, place_in}
+use Rattle.load.proofs.offender.search.Goals as goal
+use Rattle.load.proofs.offender.search.Goals.{After-side_of-side, In-loop-column}
+
+-- a turn of the innermost loop: the place that is read is one of the map
+module _ (c : In-loop-column) where
+  here : c.loop-column.i < length c.args.map.now
+  here = place_in c.channels-test.true c.loop-row-test.true c.loop-column-test.true c.requires c.loop-column.invariant.1
+
+-- its value, that its bits say it, and its side
+module _ (c : After-side_of-side) where
+  abbrev value : ℤ
+  value = get_or c.args.map.now c.loop-column.i (pos 0)
+
+  bits : to_z w16 (of_z w16 value) ≡ value
+  bits = to_z-of_z {w = w16} (search sfits_of)
+
+  side_is : c.side_of-side.result ≡ side_of c.args.layer.peak value
+  side_is = c.side_of-side.ensures ∙ ap (side_of c.args.layer.peak) bits
+
+pub channels-init : goal.channels-init
+channels-init c = (omega arith, none_searched c.none-found.ensures)
+
+pub loop-row-init : goal.loop-row-init
+loop-row-init c = (omega arith, c.channels.invariant.1)
+
+pub loop-column-init : goal.loop-column-init
+loop-column-init c = (omega arith, c.loop-row.invariant.1)
+
+pub bounds-map-i : goal.bounds-map-i
+bounds-map-i c = here c
+
+pub overflow_add-i : goal.overflow_add-i
+overflow_add-i c = omega (arith, here (goal.at.overflow_add-i c).In-loop-column)
+
+pub loop-column-preserved : goal.loop-column-preserved
+loop-column-preserved c = (omega arith, value_searched c.loop-column.invariant.1 (sym (side_is (goal.at.loop-column-preserved c).After-side_of-side) ∙ c.if-side-ne0.false))
+
+pub loop-row-preserved : goal.loop-row-preserved
+loop-row-preserved c = let at = c.loop-column in (omega arith, row_searched (omega (arith, at.invariant.0)) at.invariant.1)
+
+pub channels-preserved : goal.channels-preserved
+channels-preserved c = let at = c.loop-row in (omega arith, channel_searched (omega (arith, at.invariant.0)) at.invariant.1)
+
+-- all channels are passed
+pub returns-after-channels : goal.returns-after-channels
+returns-after-channels c =
+    all_searched (omega (arith, c.channels.invariant.0)) c.requires c.channels.invariant.1
+
+-- a value is found
+pub returns-then-side-ne0 : goal.returns-then-side-ne0
+returns-then-side-ne0 c =
+    value_found c.loop-row-test.true c.loop-column-test.true (here (goal.at.returns-then-side-ne0 c).In-loop-column) c.loop-column.invariant.1 (side_is (goal.at.returns-then-side-ne0 c).After-side_of-side) c.if-side-ne0.true
