@@ -2,7 +2,6 @@
 use mathlib.Core.Path.{◌≡◌, refl}
 use Prim.Native.Nat.{ℕ, suc, ◌+◌, ◌-◌, ◌^◌, ◌<◌, ◌≤◌}
 use native.Mathlib.Omega.{arith}
-use borrow.Author.Rules.{rules}
 use borrow.Author.Tests.{le-ltb}
 use lib.IntN.{ℤ, pos, negsuc, ◌+ℤ◌, pos-+ℤ-pos}
 use lib.Signed.{mag}
@@ -11,8 +10,8 @@ use mir.Val.{SFits, to_z, of_z}
 use mir.Facts.{to_z-of_z, to_z_pos, sfits_widen}
 use Rattle.algebra.specs.Integer.{difference_pos, difference_negsuc, difference_eq, ring}
 use Rattle.spectrum.specs.Value.{Word}
-use Rattle.spectrum.proofs.value.word.Statement.{statement}
-use Rattle.spectrum.proofs.value.word.Tie as tie
+use Rattle.spectrum.proofs.value.word.Goals as goal
+use Rattle.spectrum.proofs.value.word.Goals.{Start}
 
 -- z and m
 unfoldable lifted : ℕ → ℤ → ℕ
@@ -37,32 +36,26 @@ module _ (m : ℕ) (low : 32768 ≤ m) where
   }
 
 -- what is added, and that the sum fits
-sum : (c : tie.Start)
+sum : (c : Start)
     → to_z w64 (of_z w64 (to_z w16 (of_z w16 c.args.value))) +ℤ to_z w64 c.args.modulus ≡ pos (lifted c.args.modulus c.args.value)
 sum c =
     rw (to_z-of_z c.ranges.value, to_z-of_z (sfits_widen {w = w16} {w' = w64} tt c.ranges.value), to_z_pos w64 {n = c.args.modulus} (omega arith))
     (sum_is c.args.modulus c.requires.0 c.args.value c.ranges.value.sfits)
 
-made : (c : tie.Start) → Word c.args.modulus c.args.value (lifted c.args.modulus c.args.value)
+made : (c : Start) → Word c.args.modulus c.args.value (lifted c.args.modulus c.args.value)
 made c = lifted_word c.args.modulus c.requires.0 c.args.value c.ranges.value.sfits
 
-sum_fits : (c : tie.Start) → SFits w64 (pos (lifted c.args.modulus c.args.value))
+sum_fits : (c : Start) → SFits w64 (pos (lifted c.args.modulus c.args.value))
 sum_fits c = record { sfits = omega (arith, (made c).bound) }
 
-cast-wide : tie.Need-overflow-cast-wide
-cast-wide c = rw (to_z-of_z c.ranges.value) (sfits_widen tt c.ranges.value)
+pub overflow_cast-wide : goal.overflow_cast-wide
+overflow_cast-wide c = rw (to_z-of_z c.ranges.value) (sfits_widen tt c.ranges.value)
 
-cast-all : tie.Need-overflow-cast-all
-cast-all c = search rules
+pub overflow_add-sum : goal.overflow_add-sum
+overflow_add-sum c = rw (sum c) (sum_fits c)
 
-add-sum : tie.Need-overflow-add-sum
-add-sum c = rw (sum c) (sum_fits c)
+pub overflow_cast-result : goal.overflow_cast-result
+overflow_cast-result c = rw (sum c, to_z-of_z (sum_fits c)) (tt, record { fits = omega (arith, (made c).bound) })
 
-cast-result : tie.Need-overflow-cast-result
-cast-result c = rw (sum c, to_z-of_z (sum_fits c)) (tt, record { fits = omega (arith, (made c).bound) })
-
-returns : tie.Need-returns
+pub returns : goal.returns
 returns c = rw (sum c, to_z-of_z (sum_fits c)) (made c)
-
-pub word_spec : {M : Type 1} → statement M
-word_spec = tie.close (tie.spec cast-wide cast-all add-sum cast-result returns)
