@@ -1,6 +1,6 @@
 /* A transposed convolution planned, with a row and a column added too, a budget tried, run tile by tile and by strips, its outputs as levels, and a
  * call that is refused with the map value that it is refused for; a transform there and back; noise; two filters joined; a map to show for a range
- * refusal; a sequence of two layers, each followed by its levels. */
+ * refusal. */
 #include <stdio.h>
 #include <string.h>
 
@@ -81,23 +81,6 @@ static void show_worst(void)
     printf(", output %d\n", code == 0 ? sum[0] : -1);
 }
 
-/* A CONV layer from 3 by 3 to 2 by 2 and a TCONV layer on to 4 by 4, each followed by its levels; then the same with a bound that is not the next
- * layer's peak. */
-static void show_sequence(void)
-{
-    size_t steps[144] = {0, 4, 1, 1, 3, 3, 2, 1, 0, 9,  0, 0, 2, 2, 0, 0, 1, 38,  /* shift 1, bound 38 */
-                         1, 4, 1, 1, 2, 2, 2, 2, 0, 38, 0, 0, 4, 4, 0, 0, 2, 30}; /* shift 2, bound 30 */
-    const int16_t first[9] = {1, 2, 3, 4, 5, 6, 7, 8, 9}, kernels[8] = {1, 2, 3, 4, 1, 2, 3, 4};
-    int16_t one[16], other[16], grown[16];
-    int32_t sums[16];
-    size_t figures[4], code = wemsteky_sequence(2, steps, first, 9, kernels, 8, one, 16, other, 16, sums, 16, scratch, SCRATCH, grown, 16, figures);
-    printf("sequence %zu:", code);
-    for (int i = 0; code == 0 && i < 16; i++) printf(" %d", grown[i]);
-    steps[17] = 37;
-    code = wemsteky_sequence(2, steps, first, 9, kernels, 8, one, 16, other, 16, sums, 16, scratch, SCRATCH, grown, 16, figures);
-    printf(", refused %zu\n", code);
-}
-
 int main(void)
 {
     /* TCONV in F_4: one map channel of 24 by 24 to two channels of 50 by 50, K 4, S 2, P 0, peak 100, not cropped; then with a row and a column
@@ -152,6 +135,5 @@ int main(void)
     show_noise(0);
     show_joined();
     show_worst();
-    show_sequence();
     return 0;
 }

@@ -28,7 +28,14 @@ numbers_both test (rule number holds ∷ rules) more one two =
 
 -- no rule has the number 0
 abbrev pub numbered : List Rule → Bool
-numbered rules = every_number (ltb 0) rules
+numbered [] = true
+numbered (rule number holds ∷ rules) = ltb 0 number && numbered rules
+
+pub numbered_every : (rules : List Rule) → T (every_number (ltb 0) rules) → T (numbered rules)
+numbered_every [] above = tt
+numbered_every (rule number holds ∷ rules) above =
+    let (first, rest) = and_yes (ltb 0 number) (every_number (ltb 0) rules) above in
+    yes_and (ltb 0 number) (numbered rules) first (numbered_every rules rest)
 
 pub none_broken : (rules : List Rule) → T (numbered rules) → first_broken rules ≡ 0 → Hold rules
 none_broken [] n e = tt

@@ -1,10 +1,10 @@
 -- What the rules 15 and 25 say, and the place and the side that stand with an answer. It rests on the laws of the first value beyond the peak.
-use Rattle.std.specs.Prelude.{◌≡◌, Bool, not, List, [], ◌∷◌, ℕ, T, eqb, ℤ}
+use Rattle.std.specs.Prelude.{◌≡◌, Bool, true, not, ◌&&◌, List, [], ◌∷◌, ℕ, T, eqb, ℤ}
 use Rattle.std.proofs.Math.Path.{refl}
 use Rattle.std.proofs.Common.{sym, true≢false}
 use Rattle.std.proofs.Math.Bool.{true, false}
 use Rattle.std.proofs.Math.Logic.{⊎_elim}
-use Rattle.std.proofs.Math.Facts.{and_yes}
+use Rattle.std.proofs.Math.Facts.{and_yes, yes_and}
 use Rattle.base.specs.Rules.{Rule, rule, first_broken}
 use Rattle.base.specs.RulesLaws.{every_number}
 use Rattle.layer.specs.declared.shape.Layer.{Layer}
@@ -39,7 +39,14 @@ accepted_place l map e = rw e
 
 -- and so does an answer of other rules
 abbrev pub placeless : List Rule → Bool
-placeless rules = every_number (λ n. not (is_placed n)) rules
+placeless [] = true
+placeless (rule number holds ∷ rules) = not (is_placed number) && placeless rules
+
+pub placeless_every : (rules : List Rule) → T (every_number (λ n. not (is_placed n)) rules) → T (placeless rules)
+placeless_every [] other = tt
+placeless_every (rule number holds ∷ rules) other =
+    let (first, rest) = and_yes (not (is_placed number)) (every_number (λ n. not (is_placed n)) rules) other in
+    yes_and (not (is_placed number)) (placeless rules) first (placeless_every rules rest)
 
 pub not_placed : (rules : List Rule) → T (placeless rules) → is_placed (first_broken rules) ≡ false
 not_placed [] other = refl

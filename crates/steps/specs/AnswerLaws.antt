@@ -5,9 +5,9 @@ use Rattle.std.proofs.Math.Decide.{ℕ_discrete}
 use Rattle.std.proofs.Common.{arith}
 use Rattle.std.proofs.Math.Facts.{yes_and}
 use Rattle.base.specs.Rules.{Rule, first_broken}
-use Rattle.base.specs.RulesLaws.{every_number, numbers_both, numbered, first_answers}
+use Rattle.base.specs.RulesLaws.{every_number, numbers_both, numbered, numbered_every, first_answers}
 use Rattle.checks.specs.Checks.{is_placed}
-use Rattle.checks.specs.OffenderLaws.{placeless}
+use Rattle.checks.specs.OffenderLaws.{placeless, placeless_every}
 use Rattle.steps.specs.declared.step.Step.{Step}
 use Rattle.steps.specs.Steps.{weights_before}
 use Rattle.steps.specs.Answer.{layer_rules, layers_rules, link_rule, steps_rules}
@@ -29,14 +29,14 @@ module _ (count : ℕ) (steps : ℕ → Step) (kernels : List ℤ) where
         (numbers_both test (layers_rules count steps kernels count) (link_rule count steps ∷ []) (layers_pass count) last)
 
   pub layers_numbered : (n : ℕ) → T (numbered (layers_rules count steps kernels n))
-  layers_numbered = layers_pass (ltb 0) (λ k. tt)
+  layers_numbered n = numbered_every (layers_rules count steps kernels n) (layers_pass (ltb 0) (λ k. tt) n)
 
   pub steps_numbered : T (numbered (steps_rules count steps kernels))
-  steps_numbered = steps_pass (ltb 0) (λ k. tt) tt tt
+  steps_numbered = numbered_every (steps_rules count steps kernels) (steps_pass (ltb 0) (λ k. tt) tt tt)
 
   -- no number of theirs stands with a place
   pub steps_placeless : T (placeless (steps_rules count steps kernels))
-  steps_placeless = steps_pass (λ n. not (is_placed n)) (λ k. tt) tt tt
+  steps_placeless = placeless_every (steps_rules count steps kernels) (steps_pass (λ n. not (is_placed n)) (λ k. tt) tt tt)
 
   -- the first layers' answer, where it is not 0, is that of all
   pub layers_stop : {code : ℕ} (k n : ℕ) → k ≤ n → code ≡ first_broken (layers_rules count steps kernels k) → (code ≡ 0 → ⊥)

@@ -1,22 +1,22 @@
 -- 02, E11, of sequences: with 15 and 25 a sequence tells the first value of its first map that is beyond the first layer's peak, and the number is by its
 -- side. It rests on the laws of these answers among any rules.
-use Rattle.std.specs.Prelude.{◌≡◌, true, not, ℕ, T, ltb, ℤ, length}
+use Rattle.std.specs.Prelude.{◌≡◌, Bool, true, not, ℕ, T, ltb, ℤ, length}
 use Rattle.std.proofs.Common.{sym, eqb-true}
 use Rattle.std.proofs.Math.Path.{ap}
 use mathlib.Core.List.{List, [], ◌++◌, append_assoc}
 use Rattle.base.specs.Rules.{Rule, first_broken}
-use Rattle.base.specs.RulesLaws.{numbered, numbers_both, none_broken, both_accept}
+use Rattle.base.specs.RulesLaws.{numbered, numbers_both, none_broken, both_accept, numbered_every}
 use Rattle.layer.specs.Planned.{Planned}
 use Rattle.layer.specs.Shape.{map_count}
 use Rattle.load.specs.Offender.{offender_of, Offends}
 use Rattle.load.specs.OffenderLaws.{offends}
 use Rattle.checks.specs.Checks.{map_value_rules, is_placed, offender_with}
-use Rattle.checks.specs.OffenderLaws.{placeless}
+use Rattle.checks.specs.OffenderLaws.{placeless, placeless_every}
 use Rattle.checks.specs.BeyondLaws.{side_number, beyond_number, placed_passes, placed_beyond}
 use Rattle.steps.specs.declared.step.Step.{Step}
 use Rattle.steps.specs.declared.answer.Room.{Room}
 use Rattle.steps.specs.Answer.{steps_rules, steps_code}
-use Rattle.steps.specs.AnswerLaws.{steps_numbered, steps_placeless}
+use Rattle.steps.specs.AnswerLaws.{steps_pass, steps_numbered}
 use Rattle.steps.specs.LinkedLaws.{linked, layer_planned}
 use Rattle.steps.specs.Lent.{room_rules, sequence_code, sequence_answer}
 
@@ -32,10 +32,12 @@ module _ (count : ℕ) (steps : ℕ → Step) (map kernels : List ℤ) (room : R
   earlier = steps_rules count steps kernels ++ rooms
 
   numbers : T (numbered earlier)
-  numbers = numbers_both (ltb 0) (steps_rules count steps kernels) rooms (steps_numbered count steps kernels) tt
+  numbers = numbered_every earlier (numbers_both (ltb 0) (steps_rules count steps kernels) rooms (steps_pass count steps kernels (ltb 0) (λ k. tt) tt tt) tt)
 
   other : T (placeless earlier)
-  other = numbers_both (λ n. not (is_placed n)) (steps_rules count steps kernels) rooms (steps_placeless count steps kernels) tt
+  other =
+      let test : ℕ → Bool = λ n. not (is_placed n) in
+      placeless_every earlier (numbers_both test (steps_rules count steps kernels) rooms (steps_pass count steps kernels test (λ k. tt) tt tt) tt)
 
   is_code : code ≡ first_broken (earlier ++ (map_value_rules (steps 0).layer map ++ []))
   unfolding sequence_code
