@@ -1,5 +1,5 @@
 -- What the rules 15 and 25 say, and the place and the side that stand with an answer. It rests on the laws of the first value beyond the peak.
-use Rattle.std.specs.Prelude.{◌≡◌, Bool, true, not, ◌&&◌, List, [], ◌∷◌, ℕ, T, eqb, ℤ}
+use Rattle.std.specs.Prelude.{◌≡◌, Bool, not, ◌&&◌, List, [], ◌∷◌, ℕ, T, eqb, ℤ}
 use Rattle.std.proofs.Math.Path.{refl}
 use Rattle.std.proofs.Common.{sym, true≢false}
 use Rattle.std.proofs.Math.Bool.{true, false}
