@@ -1,6 +1,6 @@
 -- What the checks of any engine say: what the answer 0 says of a layer and of a call, and that 01's engine plans what any does. It rests on the laws
 -- of a list of rules. Where all rules hold, `search` finds the one that is asked for, so that no law counts the rules before it.
-use Rattle.std.specs.Prelude.{◌≡◌, ℕ, ◌+◌, ◌-◌, ◌≤◌, ℤ, length}
+use Rattle.std.specs.Prelude.{◌≡◌, ℕ, ◌≤◌, ℤ, length}
 use Rattle.std.proofs.Math.Path.{refl, ap}
 use Rattle.std.proofs.Math.Bool.{true, false}
 use mathlib.Core.List.{List, [], ◌∷◌, ◌++◌}
