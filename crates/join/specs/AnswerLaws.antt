@@ -1,5 +1,5 @@
 -- What the answers say: each layer that keeps its seven rules, the two layers that keep all, and the theorem of an accepted call.
-use Rattle.std.specs.Prelude.{◌≡◌, true, List, ◌++◌, ℕ, ◌+◌, ◌<◌, ℤ, length}
+use Rattle.std.specs.Prelude.{◌≡◌, true, List, ◌++◌, ℕ, ◌<◌, ℤ, length}
 use Rattle.std.proofs.Common.{eqb-true}
 use Rattle.algebra.specs.EveryLaws.{every_at}
 use Rattle.base.specs.Rules.{first_broken}
