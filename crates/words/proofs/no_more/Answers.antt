@@ -4,15 +4,13 @@ use mathlib.Core.Bool.{Bool, true, false}
 use mathlib.Core.List.{List}
 use Prim.Native.Nat.{ℕ, ◌<◌}
 use native.Mathlib.Omega.{arith}
-use borrow.Author.Rules.{rules}
 use borrow.Author.Tests.{eqb-true, eqb-false}
 use lib.Dec.{eqb, eqb-suc-zero}
 use lib.ListN.{length, drop}
 use Rattle.words.specs.declared.Span.{Span}
 use Rattle.words.specs.Words.{words_of}
 use Rattle.words.specs.Reading.{NextWord}
-use Rattle.words.proofs.no_more.Statement.{statement}
-use Rattle.words.proofs.no_more.Tie as tie
+use Rattle.words.proofs.no_more.Goals as goal
 
 decides : {cut : Bool} {text : List ℕ} {at : ℕ} {r : Span} → NextWord cut text at r
     → eqb r.from r.to ≡ eqb (length (words_of cut (drop at text))) 0
@@ -24,11 +22,5 @@ decides {cut} {text} {at} {r} n = go (eqb r.from r.to) refl
         let l : r.from < r.to = omega (arith, n.order, eqb-false r.from r.to e) in
         e ∙ rw (n.one l) (sym (eqb-suc-zero (length (words_of cut (drop r.to text)))))
 
-next-word-requires : tie.Need-next-word-requires
-next-word-requires c κs = search rules
-
-returns : tie.Need-returns
-returns c = decides c.before.next_word.ensures
-
-pub no_more_spec : {M : Type 1} → statement M
-no_more_spec = tie.close (tie.spec next-word-requires returns)
+pub returns : goal.returns
+returns c = decides c.next_word-span.ensures
