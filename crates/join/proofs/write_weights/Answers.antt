@@ -29,8 +29,9 @@ word c = to_z-of_z {w = w64} {z = c.weight_at-weight.result} (sfits_of c.weight_
 weight_fits : (c : After-weight_at-weight) → SFits w16 c.weight_at-weight.result
 weight_fits c =
     let a = c.args in
+    let fit = c.requires.second_kernel_value in
     rw c.weight_at-weight.ensures.0
-    (fit_sfits _ (weight_fit a.first a.first_kernel.now a.second a.second_kernel.now c.requires.second_kernel_value (omega (arith, c.requires.joined_len))))
+    (fit_sfits _ (weight_fit a.first a.first_kernel.now a.second a.second_kernel.now fit (omega (arith, c.requires.joined_len))))
 
 pub overflow_cast-value : goal.overflow_cast-value
 overflow_cast-value c = rw (word c) (weight_fits c)

@@ -17,9 +17,11 @@ second-rules s = filter_rules s.args.second s.args.second_weights
 abbrev pair-rules : Start → List Rule
 pair-rules s = pair_rules s.args.first s.args.second s.args.room
 
-filters_code : (c : After-first_code-code) → c.first_code-code.result ≡ first_broken (first-rules c.before.before.before ++ second-rules c.before.before.before)
+filters_code : (c : After-first_code-code) → let at = c.before.before.before in
+    c.first_code-code.result ≡ first_broken (first-rules at ++ second-rules at)
 filters_code c =
-    codes_in_order (first-rules c.before.before.before) (second-rules c.before.before.before) tt c.first_code-code.ensures c.filter_code-code.ensures c.filter_code.ensures
+    let at = c.before.before.before in
+    codes_in_order (first-rules at) (second-rules at) tt c.first_code-code.ensures c.filter_code-code.ensures c.filter_code.ensures
 
 pub returns-then-code-ne0 : goal.returns-then-code-ne0
 returns-then-code-ne0 c =
