@@ -1,0 +1,28 @@
+-- `load_kernel` loads the K² weights of a plane. That they are the plane is shown in Corner.
+use Prim.Native.Nat.{◌+◌, ◌*◌, ◌≤◌}
+use native.Mathlib.Omega.{arith}
+use lib.ListN.{length}
+use Rattle.layer.specs.CountLaws.{weights_high, kernel_high}
+use Rattle.layer.specs.PlaceLaws.{plane_end, corner_room}
+use Rattle.window.proofs.Corner.{plane_held}
+use Rattle.window.proofs.kernel.load_kernel.Goals as goal
+use Rattle.window.proofs.kernel.load_kernel.Goals.{Start}
+
+pub overflow_mul-count : goal.overflow_mul-count
+overflow_mul-count c = omega (arith, weights_high _ c.requires.in_range.0)
+
+-- the plane's weights are in the kernel
+plane_in : (s : Start) → let a = s.args in let count = a.layer.side * a.layer.side in a.plane * count + count ≤ length a.kernel.now
+plane_in s = omega (arith, plane_end _ s.requires.in_range.0 s.args.plane s.requires.kernel_len.1, s.requires.kernel_len.0)
+
+pub overflow_mul-plane : goal.overflow_mul-plane
+overflow_mul-plane c =
+    omega (arith, plane_in (goal.at.overflow_mul-plane c).Start, c.requires.kernel_len.0, kernel_high _ c.requires.in_range.0)
+
+pub load_weights-requires : goal.load_weights-requires
+load_weights-requires c =
+    let r = c.requires.in_range.0 in
+    (r, omega (arith, corner_room _ r, c.requires.in_range.1), plane_in (goal.at.load_weights-requires c).Start)
+
+pub returns : goal.returns
+returns c = plane_held _ _ _ c.load_weights.ensures
