@@ -1,0 +1,13 @@
+-- `write_row` writes value after value.
+use Prim.Native.Nat.{◌*◌, ◌-◌, ◌≤◌}
+use lib.IntN.{pos}
+use Rattle.algebra.specs.Places.{Written, Run}
+use Rattle.worst.specs.Worst.{value_at}
+use Rattle.worst.proofs.values.write_row.Given as goal
+
+abbrev pub invariant-loop-j : goal.invariant-loop-j
+invariant-loop-j l =
+    (l.j ≤ l.layer.width) × Written (pos 0) (Run (l.line * l.layer.width) l.j) (value_at l.layer l.kernel l.output) l.initial.map l.map
+
+abbrev pub decreases-loop-j : goal.decreases-loop-j
+decreases-loop-j l = l.layer.width - l.j
