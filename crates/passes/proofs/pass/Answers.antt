@@ -48,29 +48,32 @@ slice_bounds-stage-end c = omega (arith, inside c)
 
 pub stage-requires : goal.stage-requires
 stage-requires c =
+    let turn = (goal.at.stage-requires c).In-loop-at in
     let loop = c.loop-at in
-    let size = place (goal.at.stage-requires c).In-loop-at + block (goal.at.stage-requires c).In-loop-at - place (goal.at.stage-requires c).In-loop-at in
+    let size = place turn + block turn - place turn in
     let state = loop.invariant in record {
       bound = c.requires.bound;
-      stage_sizes = rw (part_length loop.at size loop.words (fits (goal.at.stage-requires c).In-loop-at), lent (goal.at.stage-requires c).In-loop-at) c.requires.whole_blocks.1;
-      at_most = part_most loop.at size loop.words (fits (goal.at.stage-requires c).In-loop-at) c.args.bound
-          (λ i l. omega (arith, state.rest (loop.at + i) (omega arith), c.requires.at_most (loop.at + i) (omega (arith, fits (goal.at.stage-requires c).In-loop-at, state.same_length))));
+      stage_sizes = rw (part_length loop.at size loop.words (fits turn), lent turn) c.requires.whole_blocks.1;
+      at_most = part_most loop.at size loop.words (fits turn) c.args.bound
+          (λ i l. omega (arith, state.rest (loop.at + i) (omega arith), c.requires.at_most (loop.at + i) (omega (arith, fits turn, state.same_length))));
     }
 
 pub loop-at-smaller : goal.loop-at-smaller
 loop-at-smaller c =
+    let turn = (goal.at.loop-at-smaller c).In-loop-at in
     let same = c.loop-at.invariant.same_length in
     let whole = c.requires.whole_blocks.0 in
-    let some : 0 < block (goal.at.loop-at-smaller c).In-loop-at = pos_of_dvd_of_pos (dvd-mul_left (block (goal.at.loop-at-smaller c).In-loop-at) whole.blocks) (omega (arith, c.loop-at-test.true, whole.whole)) in
-    omega (arith, inside (goal.at.loop-at-smaller c).In-loop-at)
+    let some : 0 < block turn = pos_of_dvd_of_pos (dvd-mul_left (block turn) whole.blocks) (omega (arith, c.loop-at-test.true, whole.whole)) in
+    omega (arith, inside turn)
 
 pub loop-at-preserved : goal.loop-at-preserved
 loop-at-preserved c =
+    let turn = (goal.at.loop-at-preserved c).In-loop-at in
     let loop = c.loop-at in
     let a = c.args in
-    let size = place (goal.at.loop-at-preserved c).In-loop-at + block (goal.at.loop-at-preserved c).In-loop-at - place (goal.at.loop-at-preserved c).In-loop-at in
+    let size = place turn + block turn - place turn in
     blocks_more a.step a.bits a.bound a.unit a.rows a.lanes a.half loop.at size a.words.now loop.words c.stage.new.words
-    (lent (goal.at.loop-at-preserved c).In-loop-at) (fits (goal.at.loop-at-preserved c).In-loop-at) (c.stage.auto.words ∙ part_length loop.at size loop.words (fits (goal.at.loop-at-preserved c).In-loop-at)) loop.invariant c.stage.ensures
+    (lent turn) (fits turn) (c.stage.auto.words ∙ part_length loop.at size loop.words (fits turn)) loop.invariant c.stage.ensures
 
 pub shape_of-words : goal.shape_of-words
 shape_of-words c = c.loop-at.invariant.same_length

@@ -9,7 +9,7 @@ use Rattle.passes.proofs.LanePasses.{after_none, after_all, Call, pass_asks, aft
 use Rattle.passes.proofs.transform_lanes.Goals as goal
 use Rattle.passes.proofs.transform_lanes.Goals.{After-level_of-level, After-unit_of}
 
--- the level of a c
+-- the level of a turn
 low : (c : After-level_of-level) → c.level_of-level.result < passes c.args.n
 low c =
     let a = c.args in
@@ -41,7 +41,8 @@ overflow_mul-half c =
 
 pub unit_of-requires : goal.unit_of-requires
 unit_of-requires c =
-    (omega (arith, low (goal.at.unit_of-requires c).After-level_of-level, c.requires.grid.short), omega (arith, unit_most c.requires.bound c.requires.grid c.level_of-level.result (low (goal.at.unit_of-requires c).After-level_of-level)))
+    let below = low (goal.at.unit_of-requires c).After-level_of-level in
+    (omega (arith, below, c.requires.grid.short), omega (arith, unit_most c.requires.bound c.requires.grid c.level_of-level.result below))
 
 -- the points before the call of `pass`, and what is computed for it
 module _ (united : After-unit_of) where
@@ -79,7 +80,8 @@ loop-p-preserved c =
     ap (λ (e : ℕ). e * 2) loop.invariant.1 ∙ rw (add-one loop.p, two-pow-succ loop.p) (omega arith) in (
       omega (arith, c.loop-p-test.true),
       twice,
-      after_more c.requires.bound c.requires.grid c.requires.pruned c.loop-p-test.true (call (goal.at.loop-p-preserved c).After-unit_of) refl loop.invariant.2 c.pass.auto.words
+      after_more c.requires.bound c.requires.grid c.requires.pruned c.loop-p-test.true (call (goal.at.loop-p-preserved c).After-unit_of) refl
+          loop.invariant.2 c.pass.auto.words
           c.pass.ensures,
     )
 

@@ -6,7 +6,8 @@ use Rattle.passes.proofs.transform_lanes.Given as goal
 
 abbrev pub invariant-loop-p : goal.invariant-loop-p
 invariant-loop-p l =
-    (l.p ≤ l.count) × (l.most ≡ l.bound * 2 ^ l.p) × After l.direction l.bits l.bound l.unit l.n l.filled l.lanes l.p (l.n / 2 ^ l.p) l.initial.words l.words
+    (l.p ≤ l.count) × (l.most ≡ l.bound * 2 ^ l.p)
+    × After l.direction l.bits l.bound l.unit l.n l.filled l.lanes l.p (l.n / 2 ^ l.p) l.initial.words l.words
 
 abbrev pub decreases-loop-p : goal.decreases-loop-p
 decreases-loop-p l = l.count - l.p

@@ -24,7 +24,8 @@ loop-k-init c =
 
 pub butterfly-pair-requires : goal.butterfly-pair-requires
 butterfly-pair-requires c =
-    record { bound = c.requires.bound; takes_power = (c.requires.words_len.2, (small (goal.at.butterfly-pair-requires c).In-loop-k).0, (small (goal.at.butterfly-pair-requires c).In-loop-k).1) }
+    let turn = (goal.at.butterfly-pair-requires c).In-loop-k in
+    record { bound = c.requires.bound; takes_power = (c.requires.words_len.2, (small turn).0, (small turn).1) }
 
 pub bounds-words-q-in-loop-k : goal.bounds-words-q-in-loop-k
 bounds-words-q-in-loop-k c = simp length-set (omega arith)

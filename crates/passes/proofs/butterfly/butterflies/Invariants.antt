@@ -8,7 +8,8 @@ use Rattle.passes.proofs.butterfly.butterflies.Given as goal
 
 abbrev pub invariant-loop-k : goal.invariant-loop-k
 invariant-loop-k l =
-    (l.k ≤ l.lanes) × (length l.words ≡ length l.initial.words) × Paired (λ _. StepMakes l.step l.bits l.bound l.t) (Run l.at l.k) l.half l.initial.words l.words
+    (l.k ≤ l.lanes) × (length l.words ≡ length l.initial.words)
+    × Paired (λ _. StepMakes l.step l.bits l.bound l.t) (Run l.at l.k) l.half l.initial.words l.words
 
 abbrev pub decreases-loop-k : goal.decreases-loop-k
 decreases-loop-k l = l.lanes - l.k

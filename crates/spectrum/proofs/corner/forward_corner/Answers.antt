@@ -40,9 +40,15 @@ slice_bounds-forward-start c = omega (arith, c.requires.cornered.whole)
 
 pub forward-requires : goal.forward-requires
 forward-requires c =
+    let start = (goal.at.forward-requires c).Start in
     let p = transforms c.requires.bound c.requires.square in
     let corner = c.requires.cornered in
-    record { bound = c.requires.bound; grid = corner_grid corner (lent (goal.at.forward-requires c).Start) p.first; at_most = corner_most corner (lent (goal.at.forward-requires c).Start); filled = corner_filled corner (lent (goal.at.forward-requires c).Start) }
+    record {
+      bound = c.requires.bound;
+      grid = corner_grid corner (lent start) p.first;
+      at_most = corner_most corner (lent start);
+      filled = corner_filled corner (lent start);
+    }
 
 -- before the second transform: the words of the first one, and those that are made of them
 module _ (c : After-widen) where
@@ -68,21 +74,25 @@ widen-requires c =
 
 pub forward-requires-2 : goal.forward-requires-2
 forward-requires-2 c =
+    let turned = (goal.at.forward-requires-2 c).After-widen in
+    let start = (goal.at.forward-requires-2 c).Start in
     let p = transforms c.requires.bound c.requires.square in
     let corner = c.requires.cornered in
-    let most = wide_most corner (lent (goal.at.forward-requires-2 c).Start) (wide (goal.at.forward-requires-2 c).After-widen) (c.args.bound * 2 ^ c.args.halvings) (rw p.count at c.forward.ensures.at_most_2) in
+    let most = wide_most corner (lent start) (wide turned) (c.args.bound * 2 ^ c.args.halvings) (rw p.count at c.forward.ensures.at_most_2) in
     rw p.shl record {
       bound = p.bound;
-      grid = rw (wide_length corner (lent (goal.at.forward-requires-2 c).Start) (wide (goal.at.forward-requires-2 c).After-widen)) p.second;
+      grid = rw (wide_length corner (lent start) (wide turned)) p.second;
       at_most = most;
-      filled = wide_filled corner (lent (goal.at.forward-requires-2 c).Start) (wide (goal.at.forward-requires-2 c).After-widen);
+      filled = wide_filled corner (lent start) (wide turned);
     }
 
 pub returns : goal.returns
 returns c =
     let a = c.args in
+    let at = goal.at.returns c in
     let p = transforms c.requires.bound c.requires.square in record {
-      tile_forward = corner_forward c.requires.cornered (lent (goal.at.returns c).Start) (wide (goal.at.returns c).After-widen) (2 ^ a.bits + 1) 2 a.halvings c.forward-2.new.words c.requires.square.side
+      tile_forward = corner_forward c.requires.cornered (lent at.Start) (wide at.After-widen) (2 ^ a.bits + 1) 2 a.halvings c.forward-2.new.words
+          c.requires.square.side
           (rw p.count at c.forward.ensures.forward) (rw p.count at c.forward-2.ensures.forward);
       at_most = rw (p.count, p.shl) at c.forward-2.ensures.at_most_2;
     }

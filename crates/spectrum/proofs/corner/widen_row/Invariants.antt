@@ -7,7 +7,8 @@ use Rattle.spectrum.proofs.corner.widen_row.Given as goal
 
 abbrev pub invariant-loop-c : goal.invariant-loop-c
 invariant-loop-c l =
-    (l.c ≤ l.n) × (l.from ≡ corner_start l.n l.k + (l.c * l.k + l.r)) × Written 0 (Run (l.r * l.n) l.c) (transposed_word l.n l.k l.initial.words) l.initial.words l.words
+    (l.c ≤ l.n) × (l.from ≡ corner_start l.n l.k + (l.c * l.k + l.r))
+    × Written 0 (Run (l.r * l.n) l.c) (transposed_word l.n l.k l.initial.words) l.initial.words l.words
 
 abbrev pub decreases-loop-c : goal.decreases-loop-c
 decreases-loop-c l = l.n - l.c

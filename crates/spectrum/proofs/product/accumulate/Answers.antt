@@ -26,8 +26,9 @@ loop-i-init c = (omega arith, words_none)
 
 pub product-requires : goal.product-requires
 product-requires c =
-    let second = factor (goal.at.product-requires c).In-loop-i (c.args.count + c.loop-i.i) (omega arith) (omega arith) in
-    let third = factor (goal.at.product-requires c).In-loop-i (c.args.count + (c.args.count + c.loop-i.i)) (omega arith) (omega arith) in
+    let turn = (goal.at.product-requires c).In-loop-i in
+    let second = factor turn (c.args.count + c.loop-i.i) (omega arith) (omega arith) in
+    let third = factor turn (c.args.count + (c.args.count + c.loop-i.i)) (omega arith) (omega arith) in
     (c.requires.le_field.0, c.requires.le_field.1, second, third)
 
 pub overflow_add-scratch : goal.overflow_add-scratch

@@ -10,7 +10,12 @@ use Rattle.spectrum.proofs.tile.transform_tile.Goals.{After-transpose}
 pub transform_lanes-requires : goal.transform_lanes-requires
 transform_lanes-requires c =
     let p = transforms c.requires.bound c.requires.square in
-    record { bound = c.requires.bound; grid = p.first; at_most = c.requires.at_most; pruned = none_pruned c.args.direction c.args.n c.args.words.now p.some c.requires.square.whole }
+    record {
+      bound = c.requires.bound;
+      grid = p.first;
+      at_most = c.requires.at_most;
+      pruned = none_pruned c.args.direction c.args.n c.args.words.now p.some c.requires.square.whole;
+    }
 
 -- before the second transform: the words after the first one and after the transposition, and their lengths
 module _ (c : After-transpose) where
@@ -44,10 +49,12 @@ transform_lanes-requires-2 c =
 
 pub returns : goal.returns
 returns c =
+    let turned = (goal.at.returns c).After-transpose in
     let a = c.args in
     let p = transforms c.requires.bound c.requires.square in record {
-      tile_transformed = tile_transformed a.direction a.bits a.halvings a.n a.words.now (ys (goal.at.returns c).After-transpose) (ts (goal.at.returns c).After-transpose) c.transform_lanes-2.new.words c.requires.square.side
-          (columns_length (goal.at.returns c).After-transpose) c.transpose.ensures
+      tile_transformed = tile_transformed a.direction a.bits a.halvings a.n a.words.now (ys turned) (ts turned)
+          c.transform_lanes-2.new.words c.requires.square.side
+          (columns_length turned) c.transpose.ensures
           (rw p.count at c.transform_lanes.ensures.transformed) (rw p.count at c.transform_lanes-2.ensures.transformed);
       at_most_2 = rw (p.count, p.shl) at c.transform_lanes-2.ensures.at_most_2;
     }
