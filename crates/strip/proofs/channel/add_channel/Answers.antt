@@ -1,0 +1,111 @@
+use mathlib.Core.Path.{◌≡◌, refl, sym, subst, ◌∙◌}
+use mathlib.Core.List.{List, ◌++◌}
+use Prim.Native.Nat.{ℕ, ◌≤◌, ◌<◌}
+use native.Mathlib.Nat.{zero-add}
+use native.Mathlib.Omega.{arith}
+use lib.ListN.{length, get_or, take, drop}
+use lib.Seq.{length-take-le, get_or-take}
+use Rattle.algebra.specs.Places.{Changed}
+use Rattle.algebra.specs.PlacesLaws.{changed_part, get_d_put_mid}
+use Rattle.spectrum.specs.Product.{Settled}
+use Rattle.strip.specs.Rows.{StripAdded}
+use Rattle.strip.proofs.Adding.{added_nothing, added_channel}
+use Rattle.strip.proofs.channel.add_channel.Goals as goal
+use Rattle.strip.proofs.channel.add_channel.Goals.{After-loop-a, After-settle, then-has_values, else-has_values}
+
+pub loop-a-init : goal.loop-a-init
+loop-a-init c =
+    (omega arith, record { same_length = refl; bound = λ i h. omega (arith, c.requires.by_index.0 i h); adds = λ first added. added })
+
+pub overflow_add-line : goal.overflow_add-line
+overflow_add-line c = omega (arith, c.requires.strip_lengths.1.row, c.requires.strip_lengths.0.plan.shape.side_high)
+
+pub add_row-requires : goal.add_row-requires
+add_row-requires c =
+    let loop = c.loop-a in
+    let lent = c.requires.strip_lengths.0 in record {
+      strip_lengths = (
+        record {
+          plan = lent.plan;
+          field = lent.field;
+          map-length = lent.map-length;
+          kernel_length = lent.kernel_length;
+          scratch_low = omega (arith, loop.invariant.1.same_length, lent.scratch_low);
+        },
+        c.requires.strip_lengths.1,
+        c.requires.strip_lengths.2,
+        omega arith,
+      );
+      line_value = refl;
+      by_index = (loop.invariant.1.bound, c.requires.by_index.1);
+    }
+
+pub loop-a-preserved : goal.loop-a-preserved
+loop-a-preserved c =
+    let before = c.loop-a.invariant.1 in
+    let g = c.args in (
+      omega arith,
+      elim c.if-has_values.branch [
+        | then-has_values w ↦ rw w.scratch-is (record {
+          same_length = w.add_row.auto.scratch ∙ before.same_length;
+          bound = w.add_row.ensures.by_index_2;
+          adds = λ first added. w.add_row.ensures.adds_row first (before.adds first added);
+        })
+        | else-has_values w ↦ rw w.scratch-is (record {
+          same_length = before.same_length;
+          bound = λ i h. omega (arith, before.bound i h);
+          adds = λ first added.
+              added_nothing g.layer g.map.now g.kernel.now g.origin (sym c.has_values.ensures ∙ w.if-has_values.false)
+              (before.adds first added);
+        })
+      ],
+    )
+
+-- all kernel rows are done: the first part of scratch is lent
+module _ (c : After-loop-a) where
+  abbrev ys : List ℕ
+  ys = c.loop-a.scratch
+
+  room : 256 ≤ length ys
+  room = omega (arith, c.loop-a.invariant.1.same_length, c.requires.strip_lengths.0.scratch_low)
+
+pub slice_bounds-settle-end : goal.slice_bounds-settle-end
+slice_bounds-settle-end c = room c
+
+pub slice_bounds-settle-end-2 : goal.slice_bounds-settle-end-2
+slice_bounds-settle-end-2 c = sym (length-take-le 256 (ys (goal.at.slice_bounds-settle-end-2 c).After-loop-a) (room (goal.at.slice_bounds-settle-end-2 c).After-loop-a))
+
+-- and comes back
+module _ (c : After-settle) where
+  abbrev done : After-loop-a
+  done = c.before.before
+
+  abbrev rs : List ℕ
+  rs = c.settle.new.words
+
+  lent_length : length (take 256 (ys done)) ≡ 256
+  lent_length = length-take-le 256 (ys done) (room done)
+
+  size : length rs ≡ 256
+  size = c.settle.auto.words ∙ lent_length
+
+  back : Changed 0 0 256 (ys done) (rs ++ drop 256 (ys done))
+  back = changed_part (ys done) rs 0 256 (room done) size
+
+  down : (i : ℕ) → i < 256 → Settled 4 (get_or (ys done) i 0) (get_or (rs ++ drop 256 (ys done)) i 0)
+  down i h =
+      let word : get_or (rs ++ drop 256 (ys done)) i 0 ≡ get_or rs i 0 = rw (zero-add i) at (get_d_put_mid 0 (ys done) rs 0 256 (room done) size i h) in
+      rw (word, ← (get_or-take 256 (ys done) i 0 h)) (c.settle.ensures i (omega (arith, lent_length)))
+
+pub shape_of-scratch : goal.shape_of-scratch
+shape_of-scratch c =
+    (back (goal.at.shape_of-scratch c).After-settle).same_length ∙ c.loop-a.invariant.1.same_length
+
+pub returns : goal.returns
+returns c first added =
+    let loop = c.loop-a in
+    let g = c.args in
+    let all : loop.a ≡ g.layer.side = omega (arith, loop.invariant.0, c.loop-a-test.false) in
+    added_channel g.layer g.map.now g.kernel.now g.origin
+    (subst (λ (a : ℕ). StripAdded g.layer g.map.now g.kernel.now g.origin g.c a first (ys (goal.at.returns c).After-loop-a)) all (loop.invariant.1.adds first added))
+    (down (goal.at.returns c).After-settle) (back (goal.at.returns c).After-settle)

@@ -1,0 +1,93 @@
+-- `store_strip` finds the columns that the strip holds, and stores them as one run. HeldPlaces has the laws.
+use mathlib.Core.Path.{◌≡◌, refl, ap₂, subst}
+use Prim.Native.Nat.{ℕ, ◌+◌, ◌*◌, ◌≤◌, ◌<◌}
+use native.Mathlib.Omega.{arith}
+use lib.Arith.{digits_lt}
+use Rattle.fermat.specs.FieldSizeLaws.{power_high}
+use Rattle.layer.specs.CountLaws.{output_rows_high, output_high}
+use Rattle.layer.specs.declared.shape.Layer.{Layer}
+use Rattle.layer.specs.Strip.{strip_length, strip_channel, strip_row, strip_column}
+use Rattle.layer.specs.StripLaws.{strip_length_low, strip_length_high, strip_channel_lt, strip_row_lt, strip_column_lt}
+use Rattle.layer.specs.PartLaws.{step_range}
+use Rattle.layer.specs.TileSizeLaws.{columns_wanted}
+use Rattle.store.specs.Held.{HeldBy}
+use Rattle.strip.proofs.HeldPlaces.{row_ends, run_fits, strip_stored}
+use Rattle.strip.proofs.held.store_strip.Goals as goal
+use Rattle.strip.proofs.held.store_strip.Goals.{After-held_in-columns}
+
+pub held_in-columns-requires : goal.held_in-columns-requires
+held_in-columns-requires c =
+    let plan = c.requires.planned.0 in
+    let length = c.strip_length.ensures in
+    let low = strip_length_low _ plan.shape in (
+      plan,
+      columns_wanted _ plan,
+      omega (arith, length, low, (step_range _ plan.shape).1),
+      omega (arith, length, strip_length_high _ plan.shape),
+      rw (length, c.strip_place-place.ensures.2) (strip_column_lt _ plan c.args.strip),
+    )
+
+-- the columns that the strip holds are known
+module _ (c : After-held_in-columns) where
+  abbrev l : Layer
+  l = c.args.layer
+
+  abbrev t : ℕ
+  t = c.args.strip
+
+  held : HeldBy l (strip_length l) (strip_column l t) l.columns c.held_in-columns.result
+  held =
+      subst (λ (length : ℕ). HeldBy l length (strip_column l t) l.columns c.held_in-columns.result) c.strip_length.ensures
+      (rw c.strip_place-place.ensures.2 at c.held_in-columns.ensures)
+
+  -- the first place of the output row, and of the columns held
+  abbrev row : ℕ
+  row = c.strip_place-place.result.channel * l.rows + c.strip_place-place.result.row
+
+  row_is : row * l.columns ≡ (strip_channel l t * l.rows + strip_row l t) * l.columns
+  row_is = ap₂ (λ (m r : ℕ). (m * l.rows + r) * l.columns) c.strip_place-place.ensures.0 c.strip_place-place.ensures.1
+
+  ends : row * l.columns + c.held_in-columns.result.first + c.held_in-columns.result.count ≤ l.outputs * l.rows * l.columns
+  ends =
+      let plan = c.requires.planned.0 in
+      omega (arith, row_is, row_ends l plan t c.requires.planned.2 _ held, held.short)
+
+  small : (row * l.columns + c.held_in-columns.result.first < 271063297) × (row < 131713)
+  small =
+      let plan = c.requires.planned.0 in
+      let total = output_high l plan in
+      let line : strip_channel l t * l.rows + strip_row l t < l.outputs * l.rows =
+      digits_lt (strip_channel_lt l plan t c.requires.planned.2) (strip_row_lt l plan t) in
+      let same : row ≡ strip_channel l t * l.rows + strip_row l t =
+      ap₂ (λ (m r : ℕ). m * l.rows + r) c.strip_place-place.ensures.0 c.strip_place-place.ensures.1 in
+      (omega (arith, ends), omega (arith, output_rows_high l plan))
+
+pub overflow_mul-at : goal.overflow_mul-at
+overflow_mul-at c = omega (arith, small (goal.at.overflow_mul-at c).After-held_in-columns)
+
+pub overflow_add-at : goal.overflow_add-at
+overflow_add-at c = omega (arith, small (goal.at.overflow_add-at c).After-held_in-columns)
+
+pub overflow_mul-at-2 : goal.overflow_mul-at-2
+overflow_mul-at-2 c = omega (arith, small (goal.at.overflow_mul-at-2 c).After-held_in-columns)
+
+pub overflow_add-at-2 : goal.overflow_add-at-2
+overflow_add-at-2 c = omega (arith, small (goal.at.overflow_add-at-2 c).After-held_in-columns)
+
+pub offset_of-offset-requires : goal.offset_of-offset-requires
+offset_of-offset-requires c = c.requires.planned.0.shape.field_high
+
+pub store_row-requires : goal.store_row-requires
+store_row-requires c =
+    let plan = c.requires.planned.0 in
+    let fits = run_fits (l (goal.at.store_row-requires c).After-held_in-columns) plan (t (goal.at.store_row-requires c).After-held_in-columns) c.requires.planned.2 c.held_in-columns.result (held (goal.at.store_row-requires c).After-held_in-columns) c.args.words.now
+    c.requires.planned.1 c.requires.planned.3 c.requires.by_index in (
+      omega (arith, c.offset_of-offset.ensures, power_high (l (goal.at.store_row-requires c).After-held_in-columns).field plan.shape.field_high),
+      omega (arith, ends (goal.at.store_row-requires c).After-held_in-columns, c.requires.planned.1),
+      rw (c.offset_of-offset.ensures, c.grid_step-step.ensures) fits,
+    )
+
+pub returns : goal.returns
+returns c =
+    strip_stored (l (goal.at.returns c).After-held_in-columns) c.requires.planned.0 (t (goal.at.returns c).After-held_in-columns) c.requires.planned.2 c.held_in-columns.result (held (goal.at.returns c).After-held_in-columns) c.args.words.now _
+    (ap₂ ◌+◌ (row_is (goal.at.returns c).After-held_in-columns) refl) c.offset_of-offset.ensures c.grid_step-step.ensures c.store_row.ensures
