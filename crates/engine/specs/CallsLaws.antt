@@ -17,7 +17,7 @@ use Rattle.checks.specs.ChecksLaws.{job_callable}
 use Rattle.checks.specs.BeyondLaws.{side_number, placed_offends, placed_number}
 use Rattle.engine.specs.declared.job.Job.{Job}
 use Rattle.engine.specs.declared.job.Progress.{Progress}
-use Rattle.engine.specs.Call.{start_of, count_of, accepted, refused, finished, cleared, call_code, Called}
+use Rattle.engine.specs.Call.{start_of, count_of, finished, cleared, call_code, Called}
 use Rattle.engine.specs.Calls.{Call, Chained, job_after, output_after, accepted_calls, accepted_budgets, JobCalls, output_of, Reaches}
 use Rattle.engine.specs.AnswerLaws.{answer_code, answer_place}
 use Rattle.engine.specs.FinishedLaws.{length-finished, finished_none, finished_then, finished_all}
