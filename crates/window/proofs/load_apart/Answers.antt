@@ -48,10 +48,12 @@ bits c = to_z-of_z {w = w16} (search sfits_of)
 
 pub loop-i-preserved : goal.loop-i-preserved
 loop-i-preserved c =
-    let made = rw (bits c) at c.word.ensures in (
+    let made = rw (bits c) at c.word.ensures in
+    let some = c.requires.spacing_nonzero.0 in
+    let place = (inside (goal.at.loop-i-preserved c).In-loop-i).0 in (
       omega arith,
-      loaded_apart c.args.spacing c.args.at c.loop-i.i c.word.result c.requires.spacing_nonzero.0 (inside (goal.at.loop-i-preserved c).In-loop-i).0 c.loop-i.invariant.1
-          (rw (add-sub_cancel_left, mul-div_cancel c.loop-i.i c.requires.spacing_nonzero.0) made),
+      loaded_apart c.args.spacing c.args.at c.loop-i.i c.word.result some place c.loop-i.invariant.1
+          (rw (add-sub_cancel_left, mul-div_cancel c.loop-i.i some) made),
     )
 
 pub returns : goal.returns

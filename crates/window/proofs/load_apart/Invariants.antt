@@ -9,7 +9,9 @@ use Rattle.window.proofs.load_apart.Given as goal
 
 abbrev pub invariant-loop-i : goal.invariant-loop-i
 invariant-loop-i l =
-    (l.i ≤ l.count) × Loaded l.modulus (λ p. T (spread l.spacing l.at l.i p)) (λ p. get_or l.values (l.from + (p - l.at) / l.spacing) (pos 0)) l.initial.words l.words
+    (l.i ≤ l.count)
+    × Loaded l.modulus (λ p. T (spread l.spacing l.at l.i p)) (λ p. get_or l.values (l.from + (p - l.at) / l.spacing) (pos 0))
+    l.initial.words l.words
 
 abbrev pub decreases-loop-i : goal.decreases-loop-i
 decreases-loop-i l = l.count - l.i

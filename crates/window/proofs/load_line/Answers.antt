@@ -67,12 +67,18 @@ pub load_row-requires : goal.load_row-requires
 load_row-requires c =
     let r = c.requires.in_range.0 in
     let m = c.modulus_of.ensures in
-    let fits = c.requires.in_range.1 in record { n_in_bounds = (c.requires.in_range.2, omega (arith, m, modulus_low _ r), omega (arith, m, modulus_high _ r)); inside = (fits.inside, λ i l. omega (arith, map_place _ r _ _ _ c.requires.map_len.1 (row_of_place (goal.at.load_row-requires c).After-edge_of).1 (fits.in_map i l), c.requires.map_len.0)) }
+    let fits = c.requires.in_range.1 in
+    let low = (row_of_place (goal.at.load_row-requires c).After-edge_of).1 in
+    record {
+      n_in_bounds = (c.requires.in_range.2, omega (arith, m, modulus_low _ r), omega (arith, m, modulus_high _ r));
+      inside = (fits.inside, λ i l. omega (arith, map_place _ r _ _ _ c.requires.map_len.1 low (fits.in_map i l), c.requires.map_len.0));
+    }
 
 pub returns-then-has_values : goal.returns-then-has_values
 returns-then-has_values c =
     let loaded = rw c.modulus_of.ensures at c.load_row.ensures in
-    loaded_as {u = value (goal.at.returns-then-has_values c).After-edge_of (row (goal.at.returns-then-has_values c).After-edge_of)} loaded (λ p l h. (h, line_value (goal.at.returns-then-has_values c).After-edge_of p)) (λ p h. h)
+    let known = (goal.at.returns-then-has_values c).After-edge_of in
+    loaded_as {u = value known (row known)} loaded (λ p l h. (h, line_value known p)) (λ p h. h)
 
 pub returns-else-has_values : goal.returns-else-has_values
 returns-else-has_values c =

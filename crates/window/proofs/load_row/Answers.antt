@@ -12,7 +12,10 @@ module _ (c : Then-shown-eq1) where
   fits = let a = c.args in close_end _ _ c.requires.inside.0 a.at a.values.now a.from c.if-shown-eq1.true
 
 pub load_run-requires : goal.load_run-requires
-load_run-requires c = record { count_in_bounds = (omega (arith, fits (goal.at.load_run-requires c).Then-shown-eq1), search rules, search rules); by_index = search rules }
+load_run-requires c = record {
+  count_in_bounds = (omega (arith, fits (goal.at.load_run-requires c).Then-shown-eq1), search rules, search rules);
+  by_index = search rules;
+}
 
 pub overflow_add-begin-then-shown-eq1 : goal.overflow_add-begin-then-shown-eq1
 overflow_add-begin-then-shown-eq1 c = omega (arith, fits (goal.at.overflow_add-begin-then-shown-eq1 c).Then-shown-eq1)

@@ -36,7 +36,10 @@ pub overflow_add-row : goal.overflow_add-row
 overflow_add-row c = omega (arith, length_high _ c.requires.in_range.0)
 
 pub load_line-requires : goal.load_line-requires
-load_line-requires c = record { in_range = (search rules, search rules, omega (arith, fits (goal.at.load_line-requires c).In-loop-u)); map_len = search rules }
+load_line-requires c = record {
+  in_range = (search rules, search rules, omega (arith, fits (goal.at.load_line-requires c).In-loop-u));
+  map_len = search rules;
+}
 
 pub loop-u-preserved : goal.loop-u-preserved
 loop-u-preserved c =

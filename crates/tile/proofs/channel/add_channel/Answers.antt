@@ -106,13 +106,14 @@ pub ready_kernel-requires : goal.ready_kernel-requires
 ready_kernel-requires c =
     let lent = c.requires.lent_lengths.0 in
     let side = c.transform_length-n.ensures in
+    let is = area_is c.args.layer side in
     let area : ℕ = c.transform_length-n.result * c.transform_length-n.result in
     let planes = (goal.at.ready_kernel-requires c).After-planes_to-planes in
     record {
       in_range = (lent.plan.shape, kernel_part c.args.layer side c.args.scratch.now lent.scratch_low);
       kernel_len = (lent.kernel_length, plane_lt planes);
       kernel_ready = λ kept.
-          rw (plane_is planes) (kernel_lent (c.requires.kernel_kept kept) area (2 * area - area) (area_is c.args.layer side) (omega (arith, area_is c.args.layer side)));
+          rw (plane_is planes) (kernel_lent (c.requires.kernel_kept kept) area (2 * area - area) is (omega (arith, is)));
     }
 
 pub offset_bounds-scratch-window : goal.offset_bounds-scratch-window
@@ -128,13 +129,16 @@ pub slice_bounds-window_spectrum-end : goal.slice_bounds-window_spectrum-end
 slice_bounds-window_spectrum-end c =
     omega (
       arith,
-      scratch_room c.args.layer c.transform_length-n.ensures c.args.scratch.now c.requires.lent_lengths.0.scratch_low c.ready_kernel.new.words c.ready_kernel.auto.words,
+      scratch_room c.args.layer c.transform_length-n.ensures c.args.scratch.now c.requires.lent_lengths.0.scratch_low
+          c.ready_kernel.new.words c.ready_kernel.auto.words,
     )
 
 pub window_spectrum-requires : goal.window_spectrum-requires
 window_spectrum-requires c =
     let lent = c.requires.lent_lengths in
-    record { in_range = (lent.0.plan.shape, window_part c.args.layer c.transform_length-n.ensures c.args.scratch.now lent.0.scratch_low c.ready_kernel.new.words c.ready_kernel.auto.words); map_len = (lent.0.map-length, lent.2, lent.1.row, lent.1.column) }
+    let kernel = c.ready_kernel in
+    let part = window_part c.args.layer c.transform_length-n.ensures c.args.scratch.now lent.0.scratch_low kernel.new.words kernel.auto.words in
+    record { in_range = (lent.0.plan.shape, part); map_len = (lent.0.map-length, lent.2, lent.1.row, lent.1.column) }
 
 -- the window's part comes back: both transforms stand in scratch
 both : (c : After-window_spectrum) → let g = c.args in
@@ -144,20 +148,26 @@ both : (c : After-window_spectrum) → let g = c.args in
 both c =
     let g = c.args in
     transformed g.layer g.map.now g.kernel.now g.origin
-    (lending c.args.layer c.transform_length-n.ensures g.scratch.now c.requires.lent_lengths.0.scratch_low c.ready_kernel.new.words c.ready_kernel.auto.words
-    c.window_spectrum.new.words c.window_spectrum.auto.words)
+    (lending g.layer c.transform_length-n.ensures g.scratch.now c.requires.lent_lengths.0.scratch_low
+    c.ready_kernel.new.words c.ready_kernel.auto.words c.window_spectrum.new.words c.window_spectrum.auto.words)
     (rw (c.planes_to-planes.ensures g.c) at c.ready_kernel.ensures) c.window_spectrum.ensures
 
 pub accumulate-requires : goal.accumulate-requires
 accumulate-requires c =
     let g = c.args in
+    let ready = both (goal.at.accumulate-requires c).After-window_spectrum in
     let (sizes, words) =
-    accumulate_asks g.layer g.map.now g.kernel.now g.origin c.requires.lent_lengths.0.plan (both (goal.at.accumulate-requires c).After-window_spectrum)
-    (area_is c.args.layer c.transform_length-n.ensures) c.requires.lent_lengths.2 c.requires.by_index in
+    accumulate_asks g.layer g.map.now g.kernel.now g.origin c.requires.lent_lengths.0.plan ready
+    (area_is g.layer c.transform_length-n.ensures) c.requires.lent_lengths.2 c.requires.by_index in
     record { le_field = sizes; by_index = words.0; by_index_2 = words.1 }
 
 pub returns : goal.returns
 returns c =
     let g = c.args in
     let plan = c.requires.lent_lengths.0.plan in
-    let is = area_is c.args.layer c.transform_length-n.ensures in record { adds = added_next g.layer g.map.now g.kernel.now g.origin plan (both (goal.at.returns c).After-window_spectrum) is c.accumulate.ensures c.accumulate.auto.scratch; kernel_kept_2 = kernel_added g.layer g.map.now g.kernel.now g.origin (both (goal.at.returns c).After-window_spectrum) is c.accumulate.ensures }
+    let is = area_is g.layer c.transform_length-n.ensures in
+    let ready = both (goal.at.returns c).After-window_spectrum in
+    record {
+      adds = added_next g.layer g.map.now g.kernel.now g.origin plan ready is c.accumulate.ensures c.accumulate.auto.scratch;
+      kernel_kept_2 = kernel_added g.layer g.map.now g.kernel.now g.origin ready is c.accumulate.ensures;
+    }

@@ -23,7 +23,9 @@ pub overflow_mul-from : goal.overflow_mul-from
 overflow_mul-from c = omega (arith, area_high (part c))
 
 pub overflow_mul-from-2 : goal.overflow_mul-from-2
-overflow_mul-from-2 c = omega (arith, area_high (part (goal.at.overflow_mul-from-2 c).After-transform_length-n), inside (part (goal.at.overflow_mul-from-2 c).After-transform_length-n))
+overflow_mul-from-2 c =
+    let part = part (goal.at.overflow_mul-from-2 c).After-transform_length-n in
+    omega (arith, area_high part, inside part)
 
 pub overflow_sub-from : goal.overflow_sub-from
 overflow_sub-from c = inside (part (goal.at.overflow_sub-from c).After-transform_length-n)
@@ -39,12 +41,14 @@ slice_bounds-load_kernel-start c = omega (arith, whole_n (part (goal.at.slice_bo
 
 pub load_kernel-requires : goal.load_kernel-requires
 load_kernel-requires c =
-    record { in_range = (c.requires.in_range.0, part_length (part (goal.at.load_kernel-requires c).After-transform_length-n)); kernel_len = c.requires.kernel_len }
+    let part = part (goal.at.load_kernel-requires c).After-transform_length-n in
+    record { in_range = (c.requires.in_range.0, part_length part); kernel_len = c.requires.kernel_len }
 
 pub corner_spectrum-requires : goal.corner_spectrum-requires
 corner_spectrum-requires c =
     let made = c.load_kernel in
-    (c.requires.in_range.0.field_high, cornered (part (goal.at.corner_spectrum-requires c).After-transform_length-n) made.new.words made.auto.words made.ensures)
+    let part = part (goal.at.corner_spectrum-requires c).After-transform_length-n in
+    (c.requires.in_range.0.field_high, cornered part made.new.words made.auto.words made.ensures)
 
 pub returns : goal.returns
 returns c =

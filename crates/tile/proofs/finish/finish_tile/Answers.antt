@@ -48,7 +48,10 @@ clear-requires c = (omega arith, omega (arith, area_is c.args.layer c.transform_
 
 pub add_channels-requires : goal.add_channels-requires
 add_channels-requires c =
-    let none = c.clear.ensures in record {
+    let none = c.clear.ensures in
+    let is = area_is c.args.layer c.transform_length-n.ensures in
+    let area : ℕ = c.transform_length-n.result * c.transform_length-n.result in
+    record {
       lent_lengths = (
         record {
           plan = c.requires.callable.0.plan;
@@ -58,10 +61,11 @@ add_channels-requires c =
         },
         c.origin_of-origin.ensures.origin_in_range,
       );
-      by_index = λ i h. none.here i (omega (arith, area_is c.args.layer c.transform_length-n.ensures, c.requires.callable.0.scratch_low)) (omega arith, omega (arith, area_is c.args.layer c.transform_length-n.ensures));
+      by_index = λ i h. none.here i (omega (arith, is, c.requires.callable.0.scratch_low)) (omega arith, omega (arith, is));
       inputs_value = λ kept. (
         (c.requires.inputs_value kept).0,
-        kernel_left (rw (sym c.origin_of-origin.ensures.channel_value.0) at (c.requires.inputs_value kept).1) (omega (arith, area_is c.args.layer c.transform_length-n.ensures)) (changed_written 0 (c.transform_length-n.result * c.transform_length-n.result - 0) none),
+        kernel_left (rw (sym c.origin_of-origin.ensures.channel_value.0) at (c.requires.inputs_value kept).1) (omega (arith, is))
+            (changed_written 0 (area - 0) none),
       );
     }
 
@@ -72,7 +76,8 @@ module _ (c : After-add_channels) where
 
   lent_le : part ≤ length c.add_channels.new.scratch
   lent_le =
-      omega (arith, area_is c.args.layer c.transform_length-n.ensures, c.add_channels.ensures.added.changed.same_length, c.clear.ensures.same_length, c.requires.callable.0.scratch_low)
+      let is = area_is c.args.layer c.transform_length-n.ensures in
+      omega (arith, is, c.add_channels.ensures.added.changed.same_length, c.clear.ensures.same_length, c.requires.callable.0.scratch_low)
 
   lent_length : length (take part c.add_channels.new.scratch) ≡ area c.args.layer
   lent_length = length-take-le part c.add_channels.new.scratch lent_le ∙ area_is c.args.layer c.transform_length-n.ensures
@@ -108,7 +113,11 @@ held c =
 
 pub store_tile-requires : goal.store_tile-requires
 store_tile-requires c =
-    record { planned = (c.requires.callable.0.plan, c.requires.callable.0.output_length, c.requires.callable.1); field_in_bounds = omega (arith, c.recover_tile.auto.words, lent_length (goal.at.store_tile-requires c).After-add_channels); by_index = λ p below e. (held (goal.at.store_tile-requires c).After-recover_tile p below e).0 }
+    record {
+      planned = (c.requires.callable.0.plan, c.requires.callable.0.output_length, c.requires.callable.1);
+      field_in_bounds = omega (arith, c.recover_tile.auto.words, lent_length (goal.at.store_tile-requires c).After-add_channels);
+      by_index = λ p below e. (held (goal.at.store_tile-requires c).After-recover_tile p below e).0;
+    }
 
 pub returns : goal.returns
 returns c =
@@ -118,12 +127,15 @@ returns c =
     let ys : List ℕ = c.add_channels.new.scratch in
     let rs : List ℕ = c.recover_tile.new.words in
     let none = changed_written 0 (k - 0) c.clear.ensures in
+    let is = area_is g.layer c.transform_length-n.ensures in
+    let sum = (goal.at.returns c).After-add_channels in
     let back : Changed 0 0 (0 + k) ys (rs ++ drop k ys) =
-    changed_part ys rs 0 k (omega (arith, lent_le (goal.at.returns c).After-add_channels)) (omega (arith, c.recover_tile.auto.words, lent_length (goal.at.returns c).After-add_channels, area_is c.args.layer c.transform_length-n.ensures)) in
-    let small : k ≤ 3 * a = omega (arith, area_is c.args.layer c.transform_length-n.ensures) in record {
+    changed_part ys rs 0 k (omega (arith, lent_le sum)) (omega (arith, c.recover_tile.auto.words, lent_length sum, is)) in
+    let small : k ≤ 3 * a = omega (arith, is) in
+    record {
       written = written_as c.store_tile.ensures (λ p l h. h) (λ p h. h) (λ p below e. (held (goal.at.returns c).After-recover_tile p below e).1);
       changed = changed_again 0 (3 * a) (omega arith) (omega arith) (omega arith) (omega arith)
           (changed_again 0 (3 * a) (omega arith) (omega arith) (omega arith) (omega arith) none c.add_channels.ensures.added.changed) back;
-      kernel_kept = subst (λ (m : ℕ). KernelKept g.layer g.kernel.now m (g.layer.inputs - 1) (rs ++ drop k ys)) c.origin_of-origin.ensures.channel_value.0
-          (kernel_left c.add_channels.ensures.kernel_kept (omega (arith, area_is c.args.layer c.transform_length-n.ensures)) back);
+      kernel_kept = subst (λ (m : ℕ). KernelKept g.layer g.kernel.now m (g.layer.inputs - 1) (rs ++ drop k ys))
+          c.origin_of-origin.ensures.channel_value.0 (kernel_left c.add_channels.ensures.kernel_kept (omega (arith, is)) back);
     }

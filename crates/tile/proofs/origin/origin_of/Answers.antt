@@ -43,6 +43,7 @@ returns c =
     let t = c.args.tile in
     let plan = c.requires.0 in
     let place = c.place_of-place.ensures in
+    let some = side_low (goal.at.returns c).After-tile_side-side in
     let row = c.grid_start.ensures ∙ ap₂ (λ (i n : ℕ). l.top * grid_step l + i * n) place.1 c.tile_side-side.ensures in
     let column = c.grid_start-2.ensures ∙ ap₂ (λ (i n : ℕ). l.left * grid_step l + i * n) place.2 c.tile_side-side.ensures in record {
       channel_value = (place.0, row, column);
@@ -51,13 +52,13 @@ returns c =
         row = omega (
           arith,
           row,
-          start_high l (tile_side l) l.rows l.top (tile_row l t) plan.shape (side_low (goal.at.returns c).After-tile_side-side) plan.rows_low
+          start_high l (tile_side l) l.rows l.top (tile_row l t) plan.shape some plan.rows_low
               (omega (arith, plan.rows_end, plan.full_height_high)) (tile_row_lt l plan t),
         );
         column = omega (
           arith,
           column,
-          start_high l (tile_side l) l.columns l.left (tile_column l t) plan.shape (side_low (goal.at.returns c).After-tile_side-side) plan.columns_low
+          start_high l (tile_side l) l.columns l.left (tile_column l t) plan.shape some plan.columns_low
               (omega (arith, plan.columns_end, plan.full_width_high)) (tile_column_lt l plan t),
         );
       };

@@ -20,14 +20,16 @@ abbrev value : In-loop-i → ℕ → ℤ
 value c p = let a = c.args in get_or a.values.now (a.from + (a.count - 1 - p)) (pos 0)
 
 -- the bits of the value say it
-bits : (c : goal.After-word) → let a = c.args in let v = get_or a.values.now (a.from + (a.count - 1 - c.loop-i.i)) (pos 0) in to_z w16 (of_z w16 v) ≡ v
+bits : (c : goal.After-word) → let a = c.args in let v = get_or a.values.now (a.from + (a.count - 1 - c.loop-i.i)) (pos 0) in
+    to_z w16 (of_z w16 v) ≡ v
 bits c = to_z-of_z {w = w16} (search sfits_of)
 
 pub loop-i-preserved : goal.loop-i-preserved
 loop-i-preserved c =
     let i = c.loop-i.i in
     let made = rw (bits c) at c.word.ensures in
-    let more = loaded_longer {v = value (goal.at.loop-i-preserved c).In-loop-i} 0 i c.word.result (omega arith) c.loop-i.invariant.1 (rw (zero-add i) made) in
+    let turn = (goal.at.loop-i-preserved c).In-loop-i in
+    let more = loaded_longer {v = value turn} 0 i c.word.result (omega arith) c.loop-i.invariant.1 (rw (zero-add i) made) in
     (omega arith, rw (zero-add i) at more)
 
 pub returns : goal.returns

@@ -80,7 +80,11 @@ module _ (c : After-above-left) where
       c.requires.1 c.requires.2 room_is in-room (omega arith) (λ i h k. most i h (omega arith)))
 
 pub returns-then-room-left : goal.returns-then-room-left
-returns-then-room-left c = made (goal.at.returns-then-room-left c).After-above-left c.ceiling_div-room.result (omega arith) (omega (arith, c.if-room-left.true)) (λ i h k. h)
+returns-then-room-left c =
+    let known = (goal.at.returns-then-room-left c).After-above-left in
+    made known c.ceiling_div-room.result (omega arith) (omega (arith, c.if-room-left.true)) (λ i h k. h)
 
 pub returns-else-room-left : goal.returns-else-room-left
-returns-else-room-left c = made (goal.at.returns-else-room-left c).After-above-left c.above-left.result (omega (arith, c.if-room-left.false)) (omega arith) (λ i h k. k)
+returns-else-room-left c =
+    let known = (goal.at.returns-else-room-left c).After-above-left in
+    made known c.above-left.result (omega (arith, c.if-room-left.false)) (omega arith) (λ i h k. k)
