@@ -26,15 +26,22 @@ pub twist-requires : goal.twist-requires
 twist-requires c =
     let ys = c.inverse.new.words in
     let ts = c.transpose.new.words in
+    let at = (goal.at.twist-requires c).After-transpose in
+    let size = turned_length at in
     let most : AtMost (16 * settled_most 4) ts =
-    permuted_most (across 16) ys ts (16 * settled_most 4) (columns_length (goal.at.twist-requires c).After-transpose) (turned_length (goal.at.twist-requires c).After-transpose) (across_lt 16) c.transpose.ensures
+    permuted_most (across 16) ys ts (16 * settled_most 4) (columns_length at) size (across_lt 16) c.transpose.ensures
     (rw passes_16 at c.inverse.ensures.at_most_2) in
-    (turned_length (goal.at.twist-requires c).After-transpose, omega arith, λ i l. omega (arith, most i l), c.requires.2)
+    (size, omega arith, λ i l. omega (arith, most i l), c.requires.2)
 
 pub inverse-requires-2 : goal.inverse-requires-2
 inverse-requires-2 c =
-    let size : length c.twist.new.words ≡ 256 = c.twist.auto.words ∙ turned_length (goal.at.inverse-requires-2 c).After-transpose in
-    record { bound = bound_4; grid = column_grid 262148 (omega arith) size; at_most = rows_most c.twist.new.words size (λ r j lr lj. (c.twist.ensures r j lr lj).bound) }
+    let zs = c.twist.new.words in
+    let size : length zs ≡ 256 = c.twist.auto.words ∙ turned_length (goal.at.inverse-requires-2 c).After-transpose in
+    record {
+      bound = bound_4;
+      grid = column_grid 262148 (omega arith) size;
+      at_most = rows_most zs size (λ r j lr lj. (c.twist.ensures r j lr lj).bound);
+    }
 
 pub offset_residues-requires : goal.offset_residues-requires
 offset_residues-requires c =
@@ -43,7 +50,9 @@ offset_residues-requires c =
 
 pub returns : goal.returns
 returns c =
-    let size : length c.inverse-2.new.words ≡ 256 = c.inverse-2.auto.words ∙ c.twist.auto.words ∙ turned_length (goal.at.returns c).After-transpose in
-    row_inverse c.args.words.now c.inverse.new.words c.transpose.new.words c.twist.new.words c.inverse-2.new.words
-    c.offset_residues.new.words (columns_length (goal.at.returns c).After-transpose) (rw passes_16 at c.inverse.ensures.inverse) c.transpose.ensures
+    let at = (goal.at.returns c).After-transpose in
+    let us = c.inverse-2.new.words in
+    let size : length us ≡ 256 = c.inverse-2.auto.words ∙ c.twist.auto.words ∙ turned_length at in
+    row_inverse c.args.words.now c.inverse.new.words c.transpose.new.words c.twist.new.words us
+    c.offset_residues.new.words (columns_length at) (rw passes_16 at c.inverse.ensures.inverse) c.transpose.ensures
     c.twist.ensures (rw passes_16 at c.inverse-2.ensures.inverse) (λ i l. row-residue (c.offset_residues.ensures i (omega (arith, size))))

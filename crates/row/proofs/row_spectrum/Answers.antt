@@ -27,10 +27,16 @@ pub forward-requires-2 : goal.forward-requires-2
 forward-requires-2 c =
     let zs = c.twist.new.words in
     let ts = c.transpose.new.words in
-    let size : length ts ≡ 256 = c.transpose.auto.words ∙ twisted_length (goal.at.forward-requires-2 c).After-twist in
-    let most = permuted_most (across 16) zs ts 262148 (twisted_length (goal.at.forward-requires-2 c).After-twist) size (across_lt 16) c.transpose.ensures
-    (rows_most zs (twisted_length (goal.at.forward-requires-2 c).After-twist) (λ r j lr lj. (c.twist.ensures r j lr lj).bound)) in
-    record { bound = bound_4; grid = column_grid 262148 (omega arith) size; at_most = most; filled = record { some = omega arith; empty = λ i lo hi. absurd (omega arith) } }
+    let long = twisted_length (goal.at.forward-requires-2 c).After-twist in
+    let size : length ts ≡ 256 = c.transpose.auto.words ∙ long in
+    let most = permuted_most (across 16) zs ts 262148 long size (across_lt 16) c.transpose.ensures
+    (rows_most zs long (λ r j lr lj. (c.twist.ensures r j lr lj).bound)) in
+    record {
+      bound = bound_4;
+      grid = column_grid 262148 (omega arith) size;
+      at_most = most;
+      filled = record { some = omega arith; empty = λ i lo hi. absurd (omega arith) };
+    }
 
 pub returns : goal.returns
 returns c =

@@ -64,9 +64,13 @@ pub overflow_sub-word-2 : goal.overflow_sub-word-2
 overflow_sub-word-2 c = omega (arith, inside (goal.at.overflow_sub-word-2 c).After-end_held-end)
 
 pub overflow_add-word : goal.overflow_add-word
-overflow_add-word c = omega (arith, inside (goal.at.overflow_add-word c).After-end_held-end, bounds (goal.at.overflow_add-word c).Start, c.requires.0.shape.side_high)
+overflow_add-word c =
+    let at = goal.at.overflow_add-word c in
+    omega (arith, inside at.After-end_held-end, bounds at.Start, c.requires.0.shape.side_high)
 
 pub returns : goal.returns
 returns c =
     let (planned, wanted, wide, narrow, below) = c.requires in
-    held_by _ planned _ _ _ _ _ wanted wide below (first_is (goal.at.returns c).After-first_held-first) (end_is (goal.at.returns c).After-end_held-end) (rw c.grid_step-step.ensures)
+    let at = goal.at.returns c in
+    held_by _ planned _ _ _ _ _ wanted wide below (first_is at.After-first_held-first) (end_is at.After-end_held-end)
+    (rw c.grid_step-step.ensures)

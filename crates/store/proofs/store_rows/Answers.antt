@@ -71,12 +71,14 @@ pub overflow_add-from-in-loop-r : goal.overflow_add-from-in-loop-r
 overflow_add-from-in-loop-r c = omega (arith, first_word (goal.at.overflow_add-from-in-loop-r c).In-loop-r)
 
 pub store_row-requires : goal.store_row-requires
-store_row-requires c = (
-  rw c.offset_of-offset.ensures (offset_high _ c.requires.planned.0.shape.field_high),
-  omega (arith, room (goal.at.store_row-requires c).In-loop-r),
-  row_storable c.args.layer c.args.rows c.args.columns c.args.words.now c.requires.field_in_bounds.0 c.requires.planned.1 c.requires.planned.2
-      c.requires.field_in_bounds.1 c.loop-r.r c.loop-r-test.true c.offset_of-offset.ensures c.grid_step-step.ensures (first_is (goal.at.store_row-requires c).In-loop-r),
-)
+store_row-requires c =
+    let here = (goal.at.store_row-requires c).In-loop-r in (
+      rw c.offset_of-offset.ensures (offset_high _ c.requires.planned.0.shape.field_high),
+      omega (arith, room here),
+      row_storable c.args.layer c.args.rows c.args.columns c.args.words.now c.requires.field_in_bounds.0 c.requires.planned.1
+          c.requires.planned.2 c.requires.field_in_bounds.1 c.loop-r.r c.loop-r-test.true c.offset_of-offset.ensures
+          c.grid_step-step.ensures (first_is here),
+    )
 
 pub loop-r-preserved : goal.loop-r-preserved
 loop-r-preserved c =

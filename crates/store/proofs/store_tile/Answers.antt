@@ -67,8 +67,9 @@ pub held_in-columns-requires : goal.held_in-columns-requires
 held_in-columns-requires c =
     let p = c.requires.planned.0 in
     let below = tile_column_lt _ p c.args.tile in
+    let sized = (goal.at.held_in-columns-requires c).After-tile_side-side in
     let (wide, narrow, inside) =
-    side_takes (goal.at.held_in-columns-requires c).After-tile_side-side c.args.layer.columns c.place_of-place.result.column (omega (arith, c.place_of-place.ensures.2)) in
+    side_takes sized c.args.layer.columns c.place_of-place.result.column (omega (arith, c.place_of-place.ensures.2)) in
     (p, columns_wanted _ p, wide, narrow, inside)
 
 pub overflow_mul-from : goal.overflow_mul-from
@@ -91,12 +92,23 @@ store_rows-requires c =
     let l = c.args.layer in
     let p = c.requires.planned.0 in
     let t = c.args.tile in
+    let at = (goal.at.store_rows-requires c).After-held_in-columns in
     let held = rows_held (goal.at.store_rows-requires c).After-held_in-rows in
-    let across = columns_held (goal.at.store_rows-requires c).After-held_in-columns in
+    let across = columns_held at in
     let out = c.args.output.now in
-    let size = length-take-le (length out - from (goal.at.store_rows-requires c).After-held_in-columns) (drop (from (goal.at.store_rows-requires c).After-held_in-columns) out) (omega (arith, length-drop (from (goal.at.store_rows-requires c).After-held_in-columns) out)) in record { planned = (p, with_words l p (tile_row l t) l.rows _ held, with_words l p (tile_column l t) l.columns _ across); columns_in_bounds = (omega (arith, size, part (goal.at.store_rows-requires c).After-held_in-columns, mul-le-mul_right l.columns held.short), across.short); field_in_bounds = (c.requires.field_in_bounds, rows_fit l p t _ _ held across (from (goal.at.store_rows-requires c).After-held_in-columns) (from_is (goal.at.store_rows-requires c).After-held_in-columns) c.args.words.now (part (goal.at.store_rows-requires c).After-held_in-columns) c.requires.by_index) }
+    let size = length-take-le (length out - from at) (drop (from at) out) (omega (arith, length-drop (from at) out)) in
+    record {
+      planned = (p, with_words l p (tile_row l t) l.rows _ held, with_words l p (tile_column l t) l.columns _ across);
+      columns_in_bounds = (omega (arith, size, part at, mul-le-mul_right l.columns held.short), across.short);
+      field_in_bounds = (
+        c.requires.field_in_bounds,
+        rows_fit l p t _ _ held across (from at) (from_is at) c.args.words.now (part at) c.requires.by_index,
+      );
+    }
 
 pub returns : goal.returns
 returns c =
-    tile_stored c.args.layer c.requires.planned.0 c.args.tile _ _ (rows_held (goal.at.returns c).After-held_in-rows) (columns_held (goal.at.returns c).After-held_in-columns) (from (goal.at.returns c).After-held_in-columns) (from_is (goal.at.returns c).After-held_in-columns)
-    c.args.words.now (omega (arith, part (goal.at.returns c).After-held_in-columns)) c.store_rows.ensures
+    let rows = (goal.at.returns c).After-held_in-rows in
+    let at = (goal.at.returns c).After-held_in-columns in
+    tile_stored c.args.layer c.requires.planned.0 c.args.tile _ _ (rows_held rows) (columns_held at) (from at) (from_is at)
+    c.args.words.now (omega (arith, part at)) c.store_rows.ensures

@@ -38,10 +38,11 @@ pub times-requires : goal.times-requires
 times-requires c =
     let loop = c.loop-r in
     let size = 16 * loop.r + 16 - 16 * loop.r in
-    let most = part_most (16 * loop.r) size loop.words (fits (goal.at.times-requires c).In-loop-r) (factor_most 4)
+    let here = (goal.at.times-requires c).In-loop-r in
+    let most = part_most (16 * loop.r) size loop.words (fits here) (factor_most 4)
     (λ i l. let p = 16 * loop.r + i in
-    omega (arith, loop.invariant.2.rest p (omega arith), c.requires.2 p (omega (arith, loop.invariant.1, c.requires.0, fits (goal.at.times-requires c).In-loop-r)))) in
-    let long = part_length (16 * loop.r) size loop.words (fits (goal.at.times-requires c).In-loop-r) ∙ lent (goal.at.times-requires c).At-loop-r in
+    omega (arith, loop.invariant.2.rest p (omega arith), c.requires.2 p (omega (arith, loop.invariant.1, c.requires.0, fits here)))) in
+    let long = part_length (16 * loop.r) size loop.words (fits here) ∙ lent (goal.at.times-requires c).At-loop-r in
     (long, most, λ j l. omega (arith, c.factors_of-factors.ensures.below j l))
 
 pub loop-r-preserved : goal.loop-r-preserved
@@ -51,11 +52,13 @@ loop-r-preserved c =
     let size = 16 * loop.r + 16 - 16 * loop.r in
     let us = c.times.new.words in
     let kept = c.times.auto.words in
-    let factors = rw c.frequency.ensures at c.factors_of-factors.ensures in (
+    let factors = rw c.frequency.ensures at c.factors_of-factors.ensures in
+    let at = goal.at.loop-r-preserved c in
+    let within = fits at.In-loop-r in (
       omega (arith, c.loop-r-test.true),
       same_len_mid (16 * loop.r) size loop.words us kept ∙ loop.invariant.1,
-      twisting_more a.unit loop.r size a.words.now loop.words us c.factors_of-factors.result (lent (goal.at.loop-r-preserved c).At-loop-r) (fits (goal.at.loop-r-preserved c).In-loop-r)
-          (kept ∙ part_length (16 * loop.r) size loop.words (fits (goal.at.loop-r-preserved c).In-loop-r)) loop.invariant.2 factors c.times.ensures,
+      twisting_more a.unit loop.r size a.words.now loop.words us c.factors_of-factors.result (lent at.At-loop-r) within
+          (kept ∙ part_length (16 * loop.r) size loop.words within) loop.invariant.2 factors c.times.ensures,
     )
 
 pub returns : goal.returns

@@ -8,10 +8,11 @@ use lib.Seq.{length-take-le, get_or-take}
 use Rattle.algebra.specs.Places.{Changed}
 use Rattle.algebra.specs.PlacesLaws.{changed_part, get_d_put_mid}
 use Rattle.spectrum.specs.Product.{Settled}
+use Rattle.layer.specs.Strip.{strip_words}
 use Rattle.strip.specs.Rows.{StripAdded}
 use Rattle.strip.proofs.Adding.{added_nothing, added_channel}
 use Rattle.strip.proofs.channel.add_channel.Goals as goal
-use Rattle.strip.proofs.channel.add_channel.Goals.{After-loop-a, After-settle, then-has_values, else-has_values}
+use Rattle.strip.proofs.channel.add_channel.Goals.{After-settle, then-has_values, else-has_values}
 
 pub loop-a-init : goal.loop-a-init
 loop-a-init c =
@@ -62,40 +63,40 @@ loop-a-preserved c =
     )
 
 -- all kernel rows are done: the first part of scratch is lent
-module _ (c : After-loop-a) where
-  abbrev ys : List ℕ
-  ys = c.loop-a.scratch
-
-  room : 256 ≤ length ys
-  room = omega (arith, c.loop-a.invariant.1.same_length, c.requires.strip_lengths.0.scratch_low)
+lent_length : (xs ys : List ℕ) → length ys ≡ length xs → strip_words ≤ length xs → length (take 256 ys) ≡ 256
+lent_length xs ys same low = length-take-le 256 ys (omega arith)
 
 pub slice_bounds-settle-end : goal.slice_bounds-settle-end
-slice_bounds-settle-end c = room c
+slice_bounds-settle-end c = omega (arith, c.loop-a.invariant.1.same_length, c.requires.strip_lengths.0.scratch_low)
 
 pub slice_bounds-settle-end-2 : goal.slice_bounds-settle-end-2
-slice_bounds-settle-end-2 c = sym (length-take-le 256 (ys (goal.at.slice_bounds-settle-end-2 c).After-loop-a) (room (goal.at.slice_bounds-settle-end-2 c).After-loop-a))
+slice_bounds-settle-end-2 c =
+    sym (lent_length c.args.scratch.now c.loop-a.scratch c.loop-a.invariant.1.same_length c.requires.strip_lengths.0.scratch_low)
 
 -- and comes back
 module _ (c : After-settle) where
-  abbrev done : After-loop-a
-  done = c.before.before
+  abbrev ys : List ℕ
+  ys = c.loop-a.scratch
 
   abbrev rs : List ℕ
   rs = c.settle.new.words
 
-  lent_length : length (take 256 (ys done)) ≡ 256
-  lent_length = length-take-le 256 (ys done) (room done)
+  room : 256 ≤ length ys
+  room = omega (arith, c.loop-a.invariant.1.same_length, c.requires.strip_lengths.0.scratch_low)
+
+  lent : length (take 256 ys) ≡ 256
+  lent = lent_length c.args.scratch.now ys c.loop-a.invariant.1.same_length c.requires.strip_lengths.0.scratch_low
 
   size : length rs ≡ 256
-  size = c.settle.auto.words ∙ lent_length
+  size = c.settle.auto.words ∙ lent
 
-  back : Changed 0 0 256 (ys done) (rs ++ drop 256 (ys done))
-  back = changed_part (ys done) rs 0 256 (room done) size
+  back : Changed 0 0 256 ys (rs ++ drop 256 ys)
+  back = changed_part ys rs 0 256 room size
 
-  down : (i : ℕ) → i < 256 → Settled 4 (get_or (ys done) i 0) (get_or (rs ++ drop 256 (ys done)) i 0)
+  down : (i : ℕ) → i < 256 → Settled 4 (get_or ys i 0) (get_or (rs ++ drop 256 ys) i 0)
   down i h =
-      let word : get_or (rs ++ drop 256 (ys done)) i 0 ≡ get_or rs i 0 = rw (zero-add i) at (get_d_put_mid 0 (ys done) rs 0 256 (room done) size i h) in
-      rw (word, ← (get_or-take 256 (ys done) i 0 h)) (c.settle.ensures i (omega (arith, lent_length)))
+      let word : get_or (rs ++ drop 256 ys) i 0 ≡ get_or rs i 0 = rw (zero-add i) at (get_d_put_mid 0 ys rs 0 256 room size i h) in
+      rw (word, ← (get_or-take 256 ys i 0 h)) (c.settle.ensures i (omega (arith, lent)))
 
 pub shape_of-scratch : goal.shape_of-scratch
 shape_of-scratch c =
@@ -105,7 +106,8 @@ pub returns : goal.returns
 returns c first added =
     let loop = c.loop-a in
     let g = c.args in
+    let settled = (goal.at.returns c).After-settle in
     let all : loop.a ≡ g.layer.side = omega (arith, loop.invariant.0, c.loop-a-test.false) in
     added_channel g.layer g.map.now g.kernel.now g.origin
-    (subst (λ (a : ℕ). StripAdded g.layer g.map.now g.kernel.now g.origin g.c a first (ys (goal.at.returns c).After-loop-a)) all (loop.invariant.1.adds first added))
-    (down (goal.at.returns c).After-settle) (back (goal.at.returns c).After-settle)
+    (subst (λ (a : ℕ). StripAdded g.layer g.map.now g.kernel.now g.origin g.c a first loop.scratch) all (loop.invariant.1.adds first added))
+    (down settled) (back settled)

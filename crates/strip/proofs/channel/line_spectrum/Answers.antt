@@ -13,18 +13,18 @@ module _ (c : After-load_line) where
 
 pub load_line-requires : goal.load_line-requires
 load_line-requires c =
-    record { in_range = (c.requires.in_range.0, c.requires.in_range.3, omega (arith, c.requires.in_range.2)); map_len = c.requires.map_len }
+    let (range, field, length, fitting, powers) = c.requires.in_range in
+    record { in_range = (range, fitting, omega (arith, length)); map_len = c.requires.map_len }
 
 pub row_spectrum-requires : goal.row_spectrum-requires
 row_spectrum-requires c =
-    let l = c.args.layer in (
-      size (goal.at.row_spectrum-requires c).After-load_line,
-      line_most l c.requires.in_range.1 (size (goal.at.row_spectrum-requires c).After-load_line) c.load_line.ensures,
-      line_filled l c.requires.in_range.1 (size (goal.at.row_spectrum-requires c).After-load_line) c.load_line.ensures,
-      c.requires.in_range.4,
-    )
+    let l = c.args.layer in
+    let field = c.requires.in_range.1 in
+    let long = size (goal.at.row_spectrum-requires c).After-load_line in
+    (long, line_most l field long c.load_line.ensures, line_filled l field long c.load_line.ensures, c.requires.in_range.4)
 
 pub returns : goal.returns
 returns c =
-    line_ready c.args.layer c.requires.in_range.1 (size (goal.at.returns c).After-load_line) c.load_line.ensures (c.row_spectrum.auto.words ∙ size (goal.at.returns c).After-load_line)
+    let long = size (goal.at.returns c).After-load_line in
+    line_ready c.args.layer c.requires.in_range.1 long c.load_line.ensures (c.row_spectrum.auto.words ∙ long)
     c.row_spectrum.ensures.row_spectrum c.row_spectrum.ensures.at_most

@@ -56,7 +56,8 @@ overflow_mul-from-2 c = omega (arith, small (goal.at.overflow_mul-from-2 c).Afte
 
 pub load_weights-requires : goal.load_weights-requires
 load_weights-requires c =
-    (c.requires.in_range.0, omega (arith, c.requires.in_range.2, c.requires.in_range.0.side_high), ends (goal.at.load_weights-requires c).After-stored_row)
+    let range = c.requires.in_range.0 in
+    (range, omega (arith, c.requires.in_range.2, range.side_high), ends (goal.at.load_weights-requires c).After-stored_row)
 
 -- the weights are loaded
 module _ (c : After-load_weights) where
@@ -65,16 +66,15 @@ module _ (c : After-load_weights) where
 
 pub row_spectrum-requires : goal.row_spectrum-requires
 row_spectrum-requires c =
-    let range = c.requires.in_range.0 in
-    let held = c.load_weights.ensures in (
-      size (goal.at.row_spectrum-requires c).After-load_weights,
-      weights_most c.args.layer c.requires.in_range.1 (size (goal.at.row_spectrum-requires c).After-load_weights) range held,
-      weights_filled c.args.layer c.requires.in_range.1 (size (goal.at.row_spectrum-requires c).After-load_weights) range held,
-      c.requires.in_range.4,
-    )
+    let l = c.args.layer in
+    let (range, field, length, below, powers) = c.requires.in_range in
+    let long = size (goal.at.row_spectrum-requires c).After-load_weights in
+    let held = c.load_weights.ensures in
+    (long, weights_most l field long range held, weights_filled l field long range held, powers)
 
 pub returns : goal.returns
 returns c =
     let l = c.args.layer in
-    weights_ready l c.requires.in_range.1 (size (goal.at.returns c).After-load_weights) (ap (λ (r : ℕ). (c.args.plane * l.side + r) * l.side) c.stored_row.ensures)
-    c.load_weights.ensures (c.row_spectrum.auto.words ∙ size (goal.at.returns c).After-load_weights) c.row_spectrum.ensures.row_spectrum c.row_spectrum.ensures.at_most
+    let long = size (goal.at.returns c).After-load_weights in
+    weights_ready l c.requires.in_range.1 long (ap (λ (r : ℕ). (c.args.plane * l.side + r) * l.side) c.stored_row.ensures)
+    c.load_weights.ensures (c.row_spectrum.auto.words ∙ long) c.row_spectrum.ensures.row_spectrum c.row_spectrum.ensures.at_most

@@ -60,22 +60,28 @@ pub slice_bounds-sum-end-2 : goal.slice_bounds-sum-end-2
 slice_bounds-sum-end-2 c = sym (lent_length (goal.at.slice_bounds-sum-end-2 c).After-add_channels)
 
 pub recover_row-requires : goal.recover_row-requires
-recover_row-requires c = (
-  lent_length (goal.at.recover_row-requires c).After-add_channels,
-  (λ i h.
-      let below : i < 256 = omega (arith, lent_length (goal.at.recover_row-requires c).After-add_channels) in
-      omega (arith, get_or-take 256 (ys (goal.at.recover_row-requires c).After-add_channels) i 0 below, c.add_channels.ensures.bound i below)),
-  c.requires.root_powers,
-)
+recover_row-requires c =
+    let all = (goal.at.recover_row-requires c).After-add_channels in
+    let length = lent_length all in (
+      length,
+      (λ i h.
+          let below : i < 256 = omega (arith, length) in
+          omega (arith, get_or-take 256 (ys all) i 0 below, c.add_channels.ensures.bound i below)),
+      c.requires.root_powers,
+    )
 
 -- the strip's words
 module _ (c : After-recover_row) where
   abbrev sums : List ℕ
   sums = c.add_channels.new.scratch
 
+  sums_room : 256 ≤ length sums
+  sums_room =
+      let added = c.add_channels.ensures.changed.same_length in
+      omega (arith, added, c.clear.ensures.same_length, c.requires.callable.0.scratch_low)
+
   sums_length : length (take 256 sums) ≡ 256
-  sums_length =
-      length-take-le 256 sums (omega (arith, c.add_channels.ensures.changed.same_length, c.clear.ensures.same_length, c.requires.callable.0.scratch_low))
+  sums_length = length-take-le 256 sums sums_room
 
   abbrev rs : List ℕ
   rs = c.recover_row.new.words
@@ -96,13 +102,22 @@ module _ (c : After-recover_row) where
 
 pub store_strip-requires : goal.store_strip-requires
 store_strip-requires c =
-    record { planned = (c.requires.callable.0.plan, c.requires.callable.0.output_length, c.requires.callable.1, omega (arith, words_length (goal.at.store_strip-requires c).After-recover_row)); by_index = λ p below e. (held (goal.at.store_strip-requires c).After-recover_row p below e).0 }
+    let words = (goal.at.store_strip-requires c).After-recover_row in
+    let callable = c.requires.callable in
+    record {
+      planned = (callable.0.plan, callable.0.output_length, callable.1, omega (arith, words_length words));
+      by_index = λ p below e. (held words p below e).0;
+    }
 
 pub returns : goal.returns
 returns c =
+    let words = (goal.at.returns c).After-recover_row in
+    let ys = c.add_channels.new.scratch in
+    let rs = c.recover_row.new.words in
     let none = changed_written 0 256 c.clear.ensures in
-    let back : Changed 0 0 256 (ys (goal.at.returns c).After-add_channels) (rs (goal.at.returns c).After-recover_row ++ drop 256 (ys (goal.at.returns c).After-add_channels)) = changed_part (ys (goal.at.returns c).After-add_channels) (rs (goal.at.returns c).After-recover_row) 0 256 (room (goal.at.returns c).After-add_channels) (words_length (goal.at.returns c).After-recover_row) in record {
-      written = written_as c.store_strip.ensures (λ p l h. h) (λ p h. h) (λ p below e. (held (goal.at.returns c).After-recover_row p below e).1);
+    let back : Changed 0 0 256 ys (rs ++ drop 256 ys) = changed_part ys rs 0 256 (sums_room words) (words_length words) in
+    record {
+      written = written_as c.store_strip.ensures (λ p l h. h) (λ p h. h) (λ p below e. (held words p below e).1);
       changed = changed_again 0 768 (omega arith) (omega arith) (omega arith) (omega arith)
           (changed_again 0 768 (omega arith) (omega arith) (omega arith) (omega arith) none c.add_channels.ensures.changed) back;
     }

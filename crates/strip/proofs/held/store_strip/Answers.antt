@@ -79,15 +79,18 @@ offset_of-offset-requires c = c.requires.planned.0.shape.field_high
 
 pub store_row-requires : goal.store_row-requires
 store_row-requires c =
-    let plan = c.requires.planned.0 in
-    let fits = run_fits (l (goal.at.store_row-requires c).After-held_in-columns) plan (t (goal.at.store_row-requires c).After-held_in-columns) c.requires.planned.2 c.held_in-columns.result (held (goal.at.store_row-requires c).After-held_in-columns) c.args.words.now
-    c.requires.planned.1 c.requires.planned.3 c.requires.by_index in (
-      omega (arith, c.offset_of-offset.ensures, power_high (l (goal.at.store_row-requires c).After-held_in-columns).field plan.shape.field_high),
-      omega (arith, ends (goal.at.store_row-requires c).After-held_in-columns, c.requires.planned.1),
+    let layer = c.args.layer in
+    let (plan, length, below, words) = c.requires.planned in
+    let found = (goal.at.store_row-requires c).After-held_in-columns in
+    let fits = run_fits layer plan c.args.strip below c.held_in-columns.result (held found) c.args.words.now
+    length words c.requires.by_index in (
+      omega (arith, c.offset_of-offset.ensures, power_high layer.field plan.shape.field_high),
+      omega (arith, ends found, length),
       rw (c.offset_of-offset.ensures, c.grid_step-step.ensures) fits,
     )
 
 pub returns : goal.returns
 returns c =
-    strip_stored (l (goal.at.returns c).After-held_in-columns) c.requires.planned.0 (t (goal.at.returns c).After-held_in-columns) c.requires.planned.2 c.held_in-columns.result (held (goal.at.returns c).After-held_in-columns) c.args.words.now _
-    (ap₂ ◌+◌ (row_is (goal.at.returns c).After-held_in-columns) refl) c.offset_of-offset.ensures c.grid_step-step.ensures c.store_row.ensures
+    let found = (goal.at.returns c).After-held_in-columns in
+    strip_stored c.args.layer c.requires.planned.0 c.args.strip c.requires.planned.2 c.held_in-columns.result (held found)
+    c.args.words.now _ (ap₂ ◌+◌ (row_is found) refl) c.offset_of-offset.ensures c.grid_step-step.ensures c.store_row.ensures

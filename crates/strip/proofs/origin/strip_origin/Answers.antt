@@ -33,12 +33,14 @@ overflow_add-layer c = omega (arith, row_high (goal.at.overflow_add-layer c).Aft
 
 pub grid_start-row-requires : goal.grid_start-row-requires
 grid_start-row-requires c =
-    (c.requires.0.shape, omega (arith, row_high (goal.at.grid_start-row-requires c).After-strip_length-length), omega arith, length_high (goal.at.grid_start-row-requires c).After-strip_length-length)
+    let known = (goal.at.grid_start-row-requires c).After-strip_length-length in
+    (c.requires.0.shape, omega (arith, row_high known), omega arith, length_high known)
 
 pub grid_start-column-requires : goal.grid_start-column-requires
 grid_start-column-requires c =
+    let known = (goal.at.grid_start-column-requires c).After-strip_length-length in
     let plan = c.requires.0 in
-    (plan.shape, omega (arith, plan.columns_end, plan.full_width_high), omega (arith, column_high (goal.at.grid_start-column-requires c).After-strip_length-length), length_high (goal.at.grid_start-column-requires c).After-strip_length-length)
+    (plan.shape, omega (arith, plan.columns_end, plan.full_width_high), omega (arith, column_high known), length_high known)
 
 -- the row and the column are known
 module _ (c : After-grid_start-column) where
@@ -79,11 +81,12 @@ shown_of-shown-requires c = (c.requires.0.shape, column_small c, omega arith, om
 
 pub returns : goal.returns
 returns c =
+    let found = (goal.at.returns c).After-grid_start-column in
     let place = c.strip_place-place.ensures in (
-      record { channel = place.0; row = row_is (goal.at.returns c).After-grid_start-column; column = column_is (goal.at.returns c).After-grid_start-column },
+      record { channel = place.0; row = row_is found; column = column_is found },
       record {
         channel = omega (arith, place.0, strip_channel_lt _ c.requires.0 c.args.strip c.requires.1);
-        row = row_small (goal.at.returns c).After-grid_start-column;
+        row = row_small found;
         shows = c.shown_of-shown.ensures;
       },
     )
