@@ -1,0 +1,2 @@
+pub mod WeighedLaws
+pub mod ProductLaws

@@ -17,5 +17,3 @@ pub mod StripLaws
 pub mod PlaceLaws
 pub mod WindowLaws
 pub mod SpacedLaws
-pub mod WeighedLaws
-pub mod ProductLaws

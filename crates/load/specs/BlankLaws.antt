@@ -11,7 +11,7 @@ use Rattle.algebra.specs.EveryLaws.{every_at, every_cong, every_zero}
 use Rattle.layer.specs.declared.shape.Layer.{Layer}
 use Rattle.layer.specs.Direct.{full_at, plane_of}
 use Rattle.layer.specs.Windows.{weighed, met_by}
-use Rattle.layer.specs.WeighedLaws.{full_weighed}
+use Rattle.layer.proofs.WeighedLaws.{full_weighed}
 use Rattle.load.specs.Load.{size_at, size_total}
 use Rattle.load.specs.Blank.{blank, none_blank}
 

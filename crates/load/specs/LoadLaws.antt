@@ -22,7 +22,7 @@ use Rattle.layer.specs.declared.shape.Layer.{Layer}
 use Rattle.layer.specs.Shape.{is_conv, kernel_count}
 use Rattle.layer.specs.Planned.{InRange}
 use Rattle.layer.specs.Direct.{when, within, full_at, plane_of}
-use Rattle.layer.specs.WeighedLaws.{full_weighed}
+use Rattle.layer.proofs.WeighedLaws.{full_weighed}
 use Rattle.load.specs.Load.{size_total, in_group, group_total, greatest_group, load, load_limit, loads_fit, within_peak}
 use Rattle.load.specs.Weights.{Weighted}
 use Rattle.load.specs.GroupLaws.{spread_group, greatest_group_most, greatest_group_at}

@@ -15,7 +15,7 @@ use Rattle.layer.specs.Shape.{full_size, full_height, full_width}
 use Rattle.layer.specs.ShapeLaws.{same_shape}
 use Rattle.layer.specs.Direct.{conv, tconv, full_at, direct_at, product_sum}
 use Rattle.layer.specs.FullLaws.{full_conv, full_tconv}
-use Rattle.layer.specs.ProductLaws.{product_law}
+use Rattle.layer.proofs.ProductLaws.{product_law}
 use Rattle.checks.specs.declared.method.Method.{Method}
 use Rattle.checks.specs.Engine.{Engine, engine_of, Lawful}
 use Rattle.checks.specs.EngineLaws.{lawful}

@@ -11,7 +11,7 @@ use Rattle.layer.specs.declared.shape.Layer.{Layer}
 use Rattle.layer.specs.Shape.{is_conv, grid_step}
 use Rattle.layer.specs.Direct.{full_at, plane_of}
 use Rattle.layer.specs.SpacedLaws.{spaced_moved, shifted-spaced}
-use Rattle.layer.specs.WeighedLaws.{full_weighed}
+use Rattle.layer.proofs.WeighedLaws.{full_weighed}
 use Rattle.window.specs.Window.{spacing, edge, window_at, turned_index, weight_at, channel_sum}
 
 -- what holds of CONV and of TCONV

@@ -21,7 +21,7 @@ use Rattle.layer.specs.Shape.{map_count}
 use Rattle.layer.specs.Direct.{when, within, shifted, plane_of, full_at}
 use Rattle.layer.specs.Windows.{weighed, met_by}
 use Rattle.layer.specs.WindowLaws.{shifted-cell}
-use Rattle.layer.specs.WeighedLaws.{full_weighed}
+use Rattle.layer.proofs.WeighedLaws.{full_weighed}
 use Rattle.load.specs.Load.{size_total, load, within_peak}
 use Rattle.load.specs.LoadLaws.{load-conv, peak_from}
 use Rattle.worst.specs.declared.output.Output.{Output}
