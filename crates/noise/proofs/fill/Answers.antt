@@ -37,4 +37,7 @@ returns c =
     let w = loop.invariant.2 in
     let lent = c.args.map.now in
     let last : loop.i ≡ length lent = omega arith in
-    record { value = rw last at loop.invariant.1; map_after = table_of (pos 0) (length lent) _ loop.map w.same_length (λ p l. w.here p l (omega arith, omega arith)) }
+    record {
+      value = rw last at loop.invariant.1;
+      map_after = table_of (pos 0) (length lent) _ loop.map w.same_length (λ p l. w.here p l (omega arith, omega arith));
+    }

@@ -33,7 +33,9 @@ sign_is c = rw (to_z-of_z c.ranges.value) at c.sign.ensures
 
 pub overflow_add-nearest : goal.overflow_add-nearest
 overflow_add-nearest c =
-    record { fits = omega (arith, rounding_small (goal.at.overflow_add-nearest c).Start, size_is c, nat_abs-le c.args.value {H = 2147483648} c.ranges.value.sfits) }
+    let rounding = rounding_small (goal.at.overflow_add-nearest c).Start in
+    let size = nat_abs-le c.args.value {H = 2147483648} c.ranges.value.sfits in
+    record { fits = omega (arith, rounding, size_is c, size) }
 
 -- the quotient is the nearest one, and the test makes it the level of the size
 clamped : (c : Joined-nearest-most) → let a = c.args in c.if-nearest-most.clamped ≡ held a.bits a.most (nat_abs a.value)
@@ -41,7 +43,10 @@ clamped c =
     let a = c.args in
     let quotient : (c.size.result + a.rounding) / 2 ^ a.bits ≡ nearest a.bits (nat_abs a.value)
     = rw (size_is c.before, c.requires.1) (sym (nearest_is a.bits (nat_abs a.value))) in
-    elim c.if-nearest-most.branch [ then-nearest-most w ↦ w.clamped-is ∙ omega (arith, quotient, w.if-nearest-most.true) | else-nearest-most w ↦ w.clamped-is ∙ omega (arith, quotient, w.if-nearest-most.false) ]
+    elim c.if-nearest-most.branch [
+      | then-nearest-most w ↦ w.clamped-is ∙ omega (arith, quotient, w.if-nearest-most.true)
+      | else-nearest-most w ↦ w.clamped-is ∙ omega (arith, quotient, w.if-nearest-most.false)
+    ]
 
 clamped_small : (c : Joined-nearest-most) → c.if-nearest-most.clamped ≤ 32767
 clamped_small c = omega (arith, clamped c, c.requires.2)

@@ -24,7 +24,9 @@ size c =
     c.whole_number-size.ensures ∙ rw (take_all (length word - 1) (drop 1 word) (omega (arith, length-drop 1 word)))
 
 pub returns-then-size-gt32768 : goal.returns-then-size-gt32768
-returns-then-size-gt32768 c = minus_large _ (omega arith) c.if-word-eq45.true (rw (size (goal.at.returns-then-size-gt32768 c).After-whole_number-size) at c.if-size-gt32768.true)
+returns-then-size-gt32768 c =
+    let after = (goal.at.returns-then-size-gt32768 c).After-whole_number-size in
+    minus_large _ (omega arith) c.if-word-eq45.true (rw (size after) at c.if-size-gt32768.true)
 
 -- the size taken from 0
 opposite : (c : Else-size-gt32768) → pos 0 -ℤ to_z w32 c.whole_number-size.result ≡ neg_ℤ (pos c.whole_number-size.result)
@@ -34,13 +36,16 @@ pub overflow_sub-result : goal.overflow_sub-result
 overflow_sub-result c = rw (opposite c) (sfits_widen {w = w16} tt (minus-fits _ c.if-size-gt32768.false))
 
 pub overflow_cast-result-then-word-eq45 : goal.overflow_cast-result-then-word-eq45
-overflow_cast-result-then-word-eq45 c = rw (opposite c, to_z-of_z (sfits_widen {w = w16} {w' = w32} tt (minus-fits _ c.if-size-gt32768.false))) (minus-fits _ c.if-size-gt32768.false)
+overflow_cast-result-then-word-eq45 c =
+    let fits = minus-fits c.whole_number-size.result c.if-size-gt32768.false in
+    rw (opposite c, to_z-of_z (sfits_widen {w = w16} {w' = w32} tt fits)) fits
 
 pub returns-then-word-eq45 : goal.returns-then-word-eq45
 returns-then-word-eq45 c =
+    let after = (goal.at.returns-then-word-eq45 c).After-whole_number-size in
     let fits = minus-fits c.whole_number-size.result c.if-size-gt32768.false in
-    rw (opposite c, to_z-of_z (sfits_widen {w = w16} {w' = w32} tt fits), to_z-of_z fits, size (goal.at.returns-then-word-eq45 c).After-whole_number-size)
-    (minus_read _ (omega arith) c.if-word-eq45.true (rw (size (goal.at.returns-then-word-eq45 c).After-whole_number-size) at c.if-size-gt32768.false))
+    rw (opposite c, to_z-of_z (sfits_widen {w = w16} {w' = w32} tt fits), to_z-of_z fits, size after)
+    (minus_read _ (omega arith) c.if-word-eq45.true (rw (size after) at c.if-size-gt32768.false))
 
 pub returns-then-size-gt32767 : goal.returns-then-size-gt32767
 returns-then-size-gt32767 c = plain_large _ (omega arith) c.if-word-eq45.false (rw c.whole_number-size-2.ensures at c.if-size-gt32767.true)
