@@ -1,7 +1,7 @@
 -- 01, "The two product sums", and 02, E7: the theorem on two whole lists of calls, each of an engine of its own, for every stride, and 01's
 -- demand 3, where the stride divides, as its corollary. It rests on what the lists leave where
 -- their budgets reach the total, on the product law, and on the sizes of a CONV layer and of the TCONV layer that leads back.
-use Rattle.std.specs.Prelude.{◌≡◌, refl, List, ℕ, ◌+◌, ◌*◌, ◌-◌, ◌<◌, ℤ, pos, ◌*ℤ◌, length}
+use Rattle.std.specs.Prelude.{◌≡◌, refl, List, ℕ, ◌+◌, ◌*◌, ◌<◌, ℤ, pos, ◌*ℤ◌, length}
 use Rattle.std.proofs.Common.{sym, ap₂, ◌∙◌, arith, eq-eqb, ne_eqb}
 use Rattle.std.proofs.Math.Arith.{digits_lt}
 use Rattle.algebra.specs.Planes.{cell}
