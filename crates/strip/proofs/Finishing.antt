@@ -25,7 +25,7 @@ use Rattle.checks.specs.Callable.{Callable}
 use Rattle.checks.specs.CallableLaws.{direct_fits}
 use Rattle.checks.specs.Engine.{strip_engine}
 use Rattle.window.specs.Window.{channel_sum}
-use Rattle.window.specs.ChannelLaws.{on_grid, window_sum}
+use Rattle.window.proofs.ChannelLaws.{on_grid, window_sum}
 use Rattle.store.specs.ReadingLaws.{field_reading}
 use Rattle.strip.specs.declared.origin.StripOrigin.{StripOrigin}
 use Rattle.strip.specs.Origin.{strip_first_row, strip_first_column, StripOriginAt}

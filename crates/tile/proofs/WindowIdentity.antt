@@ -12,7 +12,7 @@ use Rattle.layer.specs.Shape.{tile_side, grid_step, row_of, column_of, tile_chan
 use Rattle.layer.specs.Direct.{full_at, direct_at}
 use Rattle.layer.specs.TileLaws.{InTile}
 use Rattle.window.specs.Window.{channel_sum}
-use Rattle.window.specs.ChannelLaws.{on_grid, window_sum}
+use Rattle.window.proofs.ChannelLaws.{on_grid, window_sum}
 use Rattle.tile.specs.Start.{first_row, first_column}
 
 pub tile_sum : (l : Layer) (map kernel : List ℤ) → Planned l → (t p : ℕ) → InTile l t p

@@ -15,7 +15,7 @@ use Rattle.layer.specs.declared.shape.Layer.{Layer}
 use Rattle.layer.specs.Shape.{is_conv}
 use Rattle.window.specs.Window.{turned_in, turned_index}
 use Rattle.window.specs.Loaded.{Loaded, HoldsWeights, HoldsKernel}
-use Rattle.window.specs.ChannelLaws.{by_kind}
+use Rattle.window.proofs.ChannelLaws.{by_kind}
 
 -- the weight at place p of `count` weights from the weight `from` on
 abbrev pub weight_of : Layer → List ℤ → (from count p : ℕ) → ℤ

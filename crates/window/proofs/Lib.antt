@@ -1,3 +1,4 @@
+pub mod ChannelLaws
 mod Loads
 mod Rows
 mod WindowRows

@@ -4,4 +4,3 @@ pub mod Loaded
 pub mod Shows
 -- laws
 pub mod ShowsLaws
-pub mod ChannelLaws
