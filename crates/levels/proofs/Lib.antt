@@ -1,1 +1,4 @@
+pub mod NearestLaws
+pub mod LevelLaws
+pub mod LevelCases
 mod Mapping

@@ -8,7 +8,7 @@ use Rattle.algebra.specs.PlacesLaws.{length-table}
 use Rattle.layer.specs.Shape.{output_count}
 use Rattle.load.specs.Load.{within_peak}
 use Rattle.levels.specs.Level.{level}
-use Rattle.levels.specs.LevelLaws.{level-within}
+use Rattle.levels.proofs.LevelLaws.{level-within}
 use Rattle.levels.specs.Answer.{levels_of}
 use Rattle.steps.specs.declared.step.Step.{Step}
 use Rattle.steps.specs.Steps.{kernel_at}

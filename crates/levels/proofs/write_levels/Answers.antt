@@ -11,7 +11,7 @@ use mir.Syntax.{w16, w32}
 use mir.Val.{SFits, to_z, of_z}
 use Rattle.algebra.specs.PlacesLaws.{written_nothing, written_longer}
 use Rattle.levels.specs.Level.{level}
-use Rattle.levels.specs.LevelLaws.{level_zero}
+use Rattle.levels.proofs.LevelLaws.{level_zero}
 use Rattle.levels.proofs.Mapping.{mapped}
 use Rattle.levels.proofs.write_levels.Goals as goal
 use Rattle.levels.proofs.write_levels.Goals.{After-level_of-level}

@@ -11,8 +11,8 @@ use mir.Facts.{to_z-of_z, to_z_pos}
 use mir.Syntax.{w16}
 use mir.Val.{SFits, to_z, of_z}
 use Rattle.levels.specs.Level.{nearest, level}
-use Rattle.levels.specs.NearestLaws.{nearest_is}
-use Rattle.levels.specs.LevelLaws.{held, level-signed, level-within}
+use Rattle.levels.proofs.NearestLaws.{nearest_is}
+use Rattle.levels.proofs.LevelLaws.{held, level-signed, level-within}
 use Rattle.levels.proofs.value.level_of.Goals as goal
 use Rattle.levels.proofs.value.level_of.Goals.{After-sign, After-size, Joined-nearest-most, Start, else-nearest-most, then-nearest-most}
 

@@ -6,7 +6,7 @@ use Rattle.std.specs.Int.Signed.{lt_z, le_z}
 use Rattle.algebra.specs.SizeLaws.{size_neg, size_add}
 use Rattle.levels.specs.Level.{nearest, divided, clamp, level}
 use Rattle.levels.specs.BySize.{BySize, by_sign, odd_by_size, near_by_size}
-use Rattle.levels.specs.NearestLaws.{nearest_zero, nearest_unshifted, nearest_monotone, nearest_near, nearest-across}
+use Rattle.levels.proofs.NearestLaws.{nearest_zero, nearest_unshifted, nearest_monotone, nearest_near, nearest-across}
 
 -- ---- by size and sign
 
