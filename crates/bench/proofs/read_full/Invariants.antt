@@ -1,0 +1,9 @@
+-- `read_full`: the bytes that are read lie in the buffer, and each round reads one at least.
+use Rattle.std.proofs.Common.{length, ◌-◌, ◌≤◌}
+use Rattle.bench.proofs.read_full.Given as goal
+
+abbrev pub invariant-loop-count : goal.invariant-loop-count
+invariant-loop-count g l = l.count ≤ length l.buffer
+
+abbrev pub decreases-loop-count : goal.decreases-loop-count
+decreases-loop-count g l = length l.buffer - l.count
