@@ -9,7 +9,7 @@ use Rattle.layer.specs.Shape.{kernel_count}
 use Rattle.joined.specs.Joinable.{Pair, Follows, Kept, Joinable}
 use Rattle.joined.specs.Joined.{joined_layer, joined_at, joined_kernel, full_output}
 use Rattle.join.specs.Answer.{filter_rules, pair_rules, fits, weights_fit, weight_rules, shape_rules, join_code, join_left}
-use Rattle.joined.specs.JoinLaw.{join_law}
+use Rattle.joined.proofs.JoinLaw.{join_law}
 
 -- ---- one layer
 

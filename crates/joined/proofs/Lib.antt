@@ -1,1 +1,3 @@
+pub mod JoinedLaws
+pub mod JoinLaw
 mod Totals

@@ -1,2 +1,3 @@
+pub mod RootLaws
 mod TwistedRows
 mod Rows

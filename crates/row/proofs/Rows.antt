@@ -24,7 +24,7 @@ use Rattle.fermat.specs.Field.{modulus}
 use Rattle.spectrum.specs.Value.{offset_of}
 use Rattle.spectrum.specs.Product.{OffsetResidue}
 use Rattle.row.specs.Powers.{row_root}
-use Rattle.row.specs.PowersLaws.{row_root_lem, root_one}
+use Rattle.row.proofs.RootLaws.{row_root_lem, root_one}
 use Rattle.row.specs.FrequencyLaws.{other_order}
 use Rattle.row.specs.Row.{frequency_of, Twisted, RowSpectrum, RowRecovered}
 

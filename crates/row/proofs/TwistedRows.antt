@@ -14,7 +14,8 @@ use Rattle.passes.specs.Halving.{word}
 use Rattle.passes.specs.PartLaws.{part-word}
 use Rattle.spectrum.specs.Product.{Settled}
 use Rattle.row.specs.Powers.{row_root, RootPowers}
-use Rattle.row.specs.PowersLaws.{power_at, power_below, root_one}
+use Rattle.row.specs.PowersLaws.{power_at, power_below}
+use Rattle.row.proofs.RootLaws.{root_one}
 use Rattle.fermat.specs.LengthLaws.{power_modulo}
 use Rattle.row.specs.Row.{frequency_of, Factors, Multiplied, Twisted}
 

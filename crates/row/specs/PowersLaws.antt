@@ -1,12 +1,11 @@
--- Laws of the table: a test that antt computes over a whole list, the rule that it proves at each place, the entry at k as a power; and that the
--- root is one of length 256 modulo 65,537. They rest on the laws of congruence and on what fermat calls a root.
-use Rattle.std.specs.Prelude.{◌≡◌, refl, Bool, true, false, ◌&&◌, List, [], ◌∷◌, ℕ, zero, suc, ◌*◌, ◌%◌, ◌^◌, ◌<◌, T, eqb, length, get_or}
+-- Laws of the table: a test that antt computes over a whole list, the rule that it proves at each place, the entry at k as a power. They rest on
+-- the laws of congruence. What holds of the root itself is in proofs/RootLaws.
+use Rattle.std.specs.Prelude.{◌≡◌, Bool, true, false, ◌&&◌, List, [], ◌∷◌, ℕ, zero, suc, ◌*◌, ◌%◌, ◌^◌, ◌<◌, T, eqb, length, get_or}
 use Rattle.std.proofs.Common.{sym, ap, ◌∙◌, pow-suc, mod-lt, add-one, arith, eqb→eq}
 use Rattle.std.proofs.Math.Nat.{pow-zero}
 use Rattle.algebra.specs.Congruence.{Cong}
 use Rattle.algebra.specs.CongruenceLaws.{c_eq, c_mod, c_mul, c_refl, ◌⨟◌, c_via}
-use Rattle.fermat.specs.RootLaws.{Root, root_period}
-use Rattle.row.specs.Powers.{row_root, Powers}
+use Rattle.row.specs.Powers.{Powers}
 
 -- ---- the test of a table
 
@@ -56,17 +55,3 @@ pub power_below : {m r n : ℕ} {xs : List ℕ} → Powers m r n xs → 1 < m �
 power_below p some zero h = omega (arith, p.first)
 power_below {m} {r} {n} {xs} p some (suc k) h =
     rw (sym (add-one k), p.next k (omega arith)) (mod-lt (get_or xs k 0 * r) (omega arith))
-
--- ---- the root
-
-pub root_is : row_root ≡ 282
-unfolding row_root
-root_is = refl
-
--- 64,375 is the inverse of the root, 65,281 that of the length 256, and the root to the power 128 is −1
-pub row_root_lem : Root 65537 row_root 64375 65281 7
-unfolding row_root
-row_root_lem = record { half_period = record { same = refl }; inverse = record { same = refl }; length = record { same = refl } }
-
-pub root_one : Cong 65537 (row_root ^ 256) 1
-root_one = root_period 7 row_root row_root_lem.half_period

@@ -21,7 +21,8 @@ use Rattle.fermat.specs.Transform.{circular}
 use Rattle.spectrum.specs.Product.{factor_most, product_most, settled_most, Settled, Accumulated}
 use Rattle.spectrum.specs.LendingLaws.{Lending, lent_changed, kernel_word, window_word, lent_most}
 use Rattle.row.specs.Row.{RowSpectrum}
-use Rattle.row.specs.RowLaws.{row_none, row_moved, row_kept, row_accumulated}
+use Rattle.row.specs.RowLaws.{row_none, row_moved, row_kept}
+use Rattle.row.proofs.RootLaws.{row_accumulated}
 use Rattle.layer.specs.Windows.{spread}
 use Rattle.layer.specs.Direct.{plane_of}
 use Rattle.layer.specs.Strip.{strip_words}

@@ -13,7 +13,7 @@ use Rattle.layer.specs.Direct.{conv, full_at}
 use Rattle.layer.specs.FullLaws.{full_conv}
 use Rattle.joined.specs.Joinable.{Filter, Pair, Along, Follows}
 use Rattle.joined.specs.Joined.{joined_layer, joined_at, joined_kernel, full_output}
-use Rattle.joined.specs.JoinedLaws.{conv_joined}
+use Rattle.joined.proofs.JoinedLaws.{conv_joined}
 
 -- ---- one filter
 
