@@ -72,14 +72,13 @@ pub loop-k-smaller : goal.loop-k-smaller
 loop-k-smaller c = omega (arith, below (goal.at.loop-k-smaller c).After-layer_levels)
 
 pub loop-k-preserved : goal.loop-k-preserved
-loop-k-preserved c =
-    (
-      below (goal.at.loop-k-preserved c).After-layer_levels,
-      record { sums = rw (map-held (goal.at.loop-k-preserved c).After-layer_levels) at c.layer_sums-in-loop-k.ensures },
-      c.layer_levels.auto.map ∙ c.loop-k.invariant.2,
-      c.layer_sums-in-loop-k.auto.output ∙ c.loop-k.invariant.3,
-      c.layer_sums-in-loop-k.auto.scratch ∙ c.loop-k.invariant.4,
-    )
+loop-k-preserved c = (
+  below (goal.at.loop-k-preserved c).After-layer_levels,
+  record { sums = rw (map-held (goal.at.loop-k-preserved c).After-layer_levels) at c.layer_sums-in-loop-k.ensures },
+  c.layer_levels.auto.map ∙ c.loop-k.invariant.2,
+  c.layer_sums-in-loop-k.auto.output ∙ c.loop-k.invariant.3,
+  c.layer_sums-in-loop-k.auto.scratch ∙ c.loop-k.invariant.4,
+)
 
 -- ---- the last step
 
