@@ -1,4 +1,4 @@
--- `grid_step` makes the test of `grid_step`.
+-- `grid_step` makes the test of its definition.
 use borrow.Author.Tests.{eq-eqb, ne_eqb}
 use Rattle.layer.proofs.sizes.grid_step.Goals as goal
 

@@ -1,4 +1,4 @@
--- `tile_total` is the product of `tile_total`: at most 64 channels, 8,292 tile rows and 8,292 tile columns.
+-- `tile_total` is the product of its definition: at most 64 channels, 8,292 tile rows and 8,292 tile columns.
 use mathlib.Core.Path.{ap, ap₂}
 use Prim.Native.Nat.{◌*◌, ◌≤◌}
 use native.Mathlib.Nat.{mul-le-mul}

@@ -1,4 +1,4 @@
--- `strip_total` is the product of `strip_total`: at most 131,712 output rows and 8,484 strips in a row.
+-- `strip_total` is the product of its definition: at most 131,712 output rows and 8,484 strips in a row.
 use mathlib.Core.Path.{ap}
 use Prim.Native.Nat.{◌*◌, ◌≤◌}
 use native.Mathlib.Nat.{mul-le-mul}

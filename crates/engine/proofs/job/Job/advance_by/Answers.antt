@@ -11,7 +11,7 @@ use Rattle.engine.proofs.Scratch.{changed_cleared}
 use Rattle.engine.proofs.job.Job.advance_by.Goals as goal
 use Rattle.engine.proofs.job.Job.advance_by.Goals.{Else-progress-ne0}
 
--- the code is 0: what that says of the c, and of the part that it goes up to
+-- the code is 0: what that says of the call, and of the part that it goes up to
 module _ (c : Else-progress-ne0) where
   abbrev engine : Engine
   engine = engine_of c.args.method

@@ -10,7 +10,7 @@ use Rattle.engine.proofs.Outcomes.{told_callable, told_order, refused_preview, a
 use Rattle.engine.proofs.job.Job.preview_by.Goals as goal
 use Rattle.engine.proofs.job.Job.preview_by.Goals.{Then-progress-eq0}
 
--- the code is 0: what that says of the c, and of the part that it goes up to
+-- the code is 0: what that says of the call, and of the part that it goes up to
 module _ (c : Then-progress-eq0) where
   abbrev engine : Engine
   engine = engine_of c.args.method
