@@ -95,7 +95,7 @@ fn report_preview(preview: Preview, figures: &mut [usize; 8]) -> usize
 
 // The job of a layer at that part.
 fn job_of(layer: &[usize; 16], next: usize) -> Job
-    ensures { result ≡ record { layer = layer_of layer.entry.now; next = next } }
+    ensures { result ≡ record { layer = layer_of layer.now; next = next } }
 {
     Job {
         layer: layer_of(layer),
@@ -144,7 +144,7 @@ pub extern "C" fn wemsteky_job(
     scratch: &mut [u64],
     figures: &mut [usize; 7],
 ) -> usize
-    ensures { Reported tile_engine (record { layer = layer_of layer.entry.now; next = next }) budget map.now kernel.now output.old scratch.old result figures.new output.new scratch.new }
+    ensures { Reported tile_engine (record { layer = layer_of layer.now; next = next }) budget map.now kernel.now output.old scratch.old result figures.new output.new scratch.new }
 {
     let job = job_of(layer, next);
     let progress = job.advance(budget, map, kernel, output, scratch);
@@ -162,7 +162,7 @@ pub extern "C" fn wemsteky_strip_job(
     scratch: &mut [u64],
     figures: &mut [usize; 7],
 ) -> usize
-    ensures { Reported strip_engine (record { layer = layer_of layer.entry.now; next = next }) budget map.now kernel.now output.old scratch.old result figures.new output.new scratch.new }
+    ensures { Reported strip_engine (record { layer = layer_of layer.now; next = next }) budget map.now kernel.now output.old scratch.old result figures.new output.new scratch.new }
 {
     let job = job_of(layer, next);
     let progress = job.advance_strips(budget, map, kernel, output, scratch);
@@ -180,8 +180,8 @@ pub extern "C" fn wemsteky_preview(
     scratch: &[u64],
     figures: &mut [usize; 8],
 ) -> usize
-    ensures value { result ≡ (preview_of tile_engine (record { layer = layer_of layer.entry.now; next = next }) budget map.now kernel.now (length output.now) (length scratch.now)).progress.code }
-    ensures figures_after { figures.new ≡ preview_figures (preview_of tile_engine (record { layer = layer_of layer.entry.now; next = next }) budget map.now kernel.now (length output.now) (length scratch.now)) }
+    ensures value { result ≡ (preview_of tile_engine (record { layer = layer_of layer.now; next = next }) budget map.now kernel.now (length output.now) (length scratch.now)).progress.code }
+    ensures figures_after { figures.new ≡ preview_figures (preview_of tile_engine (record { layer = layer_of layer.now; next = next }) budget map.now kernel.now (length output.now) (length scratch.now)) }
 {
     let job = job_of(layer, next);
     let preview = job.preview(budget, map, kernel, output, scratch);
@@ -199,8 +199,8 @@ pub extern "C" fn wemsteky_strip_preview(
     scratch: &[u64],
     figures: &mut [usize; 8],
 ) -> usize
-    ensures value { result ≡ (preview_of strip_engine (record { layer = layer_of layer.entry.now; next = next }) budget map.now kernel.now (length output.now) (length scratch.now)).progress.code }
-    ensures figures_after { figures.new ≡ preview_figures (preview_of strip_engine (record { layer = layer_of layer.entry.now; next = next }) budget map.now kernel.now (length output.now) (length scratch.now)) }
+    ensures value { result ≡ (preview_of strip_engine (record { layer = layer_of layer.now; next = next }) budget map.now kernel.now (length output.now) (length scratch.now)).progress.code }
+    ensures figures_after { figures.new ≡ preview_figures (preview_of strip_engine (record { layer = layer_of layer.now; next = next }) budget map.now kernel.now (length output.now) (length scratch.now)) }
 {
     let job = job_of(layer, next);
     let preview = job.preview_strips(budget, map, kernel, output, scratch);

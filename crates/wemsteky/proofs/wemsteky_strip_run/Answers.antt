@@ -1,0 +1,10 @@
+-- The run by strips, and its answer as figures.
+use Rattle.layer.specs.Strip.{strip_total}
+use Rattle.engine.specs.Call.{start_of}
+use Rattle.wemsteky.proofs.Reports.{reported}
+use Rattle.wemsteky.proofs.wemsteky_strip_run.Goals as goal
+
+pub returns : goal.returns
+returns c =
+    reported start_of strip_total c.layer_of.ensures c.run_strips-progress.ensures
+    c.report.ensures.value c.report.ensures.figures_after
