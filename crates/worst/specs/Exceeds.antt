@@ -1,5 +1,5 @@
 -- 02, E13: what the theorem of range refusals speaks of: the checks of a run before 16, and a map with an output larger in size than the limit. The
--- theorem is in `RangeLaws`.
+-- theorem is in `RangeLaws` of proofs/.
 use Rattle.std.specs.Prelude.{◌≡◌, true, List, ℕ, ◌<◌, ℤ, nat_abs, length}
 use Rattle.base.specs.Rules.{first_broken, rules_before}
 use Rattle.layer.specs.declared.shape.Layer.{Layer}

@@ -11,5 +11,4 @@ pub mod WorstLaws
 pub mod ReachedLaws
 pub mod AcceptedLaws
 pub mod AnswerLaws
-pub mod RangeLaws
 pub mod WorstCases
