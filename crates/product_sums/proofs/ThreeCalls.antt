@@ -49,7 +49,8 @@ module _ {engine : Engine} (lawful : Lawful engine) (l : Layer) (budget : ℕ) (
     {progress-1 progress-2 progress-3 : Progress}
     {job : Job} (starts : job ≡ start_of l) (first : Called engine job budget map kernel output-0 scratch-0 progress-1 output-1 scratch-1)
     (second : Called engine progress-1.job budget none kernel output-1 scratch-1 progress-2 output-2 scratch-2)
-    (third : Called engine progress-2.job (plan_of engine l).parts map kernel output-2 scratch-2 progress-3 output-3 scratch-3)
+    {last : ℕ} (planned : last ≡ (plan_of engine l).parts)
+    (third : Called engine progress-2.job last map kernel output-2 scratch-2 progress-3 output-3 scratch-3)
   where
     abbrev call_1 : Call engine
     call_1 = record {
@@ -82,7 +83,7 @@ module _ {engine : Engine} (lawful : Lawful engine) (l : Layer) (budget : ℕ) (
     abbrev call_3 : Call engine
     call_3 = record {
       job = progress-2.job;
-      budget = (plan_of engine l).parts;
+      budget = last;
       map = map;
       kernel = kernel;
       output = output-2;
