@@ -1,2 +1,3 @@
+pub mod ProductSumsLaws
 -- laws that the proofs share
 mod ThreeCalls

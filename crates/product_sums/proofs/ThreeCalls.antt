@@ -24,7 +24,7 @@ use Rattle.engine.specs.Calls.{Call, JobCalls, accepted_budgets, Reaches}
 use Rattle.engine.specs.CallsLaws.{called_code, output_length, scratch_length, call_callable, cleared_again, calls_job, calls_output}
 use Rattle.product_sums.specs.ProductSums.{Paired, SumsAgree}
 use Rattle.product_sums.specs.CallsMade.{CallsMade}
-use Rattle.product_sums.specs.ProductSumsLaws.{product_sums}
+use Rattle.product_sums.proofs.ProductSumsLaws.{product_sums}
 
 -- a map of an accepted call holds some value
 map_some : (l : Layer) → Planned l → 1 ≤ l.inputs * l.height * l.width

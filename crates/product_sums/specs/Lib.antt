@@ -2,4 +2,3 @@
 pub mod ProductSums
 pub mod CallsMade
 -- laws
-pub mod ProductSumsLaws
