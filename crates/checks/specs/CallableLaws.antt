@@ -6,7 +6,7 @@ use Rattle.layer.specs.Shape.{channel_of, row_of, column_of}
 use Rattle.layer.specs.Direct.{direct_at}
 use Rattle.layer.specs.TileLaws.{planned_tiled, channel_lt}
 use Rattle.load.specs.Load.{load_limit}
-use Rattle.load.specs.LoadLaws.{peak_bounds, load_fits, direct_load}
+use Rattle.load.proofs.LoadLaws.{peak_bounds, load_fits, direct_load}
 use Rattle.checks.specs.Engine.{Engine}
 use Rattle.checks.specs.Callable.{Callable}
 

@@ -12,8 +12,8 @@ use Rattle.base.specs.Rules.{Rule, rule, first_broken}
 use Rattle.base.specs.RulesLaws.{numbered, both_accept, second_answers}
 use Rattle.layer.specs.declared.shape.Layer.{Layer}
 use Rattle.load.specs.Load.{size_total, load, load_limit, loads_fit}
-use Rattle.load.specs.GroupLaws.{one_stride_group}
-use Rattle.load.specs.LoadLaws.{load-conv, load-tconv, load_most}
+use Rattle.load.proofs.GroupLaws.{one_stride_group}
+use Rattle.load.proofs.LoadLaws.{load-conv, load-tconv, load_most}
 use Rattle.checks.specs.Engine.{Engine}
 use Rattle.checks.specs.Rules.{above_rule, below_rule, blank_rule}
 use Rattle.checks.specs.Checks.{shape_rules, output_rules, lent_rules, job_rules, run_code, job_code}

@@ -1,3 +1,6 @@
+pub mod GroupLaws
+pub mod LoadLaws
+pub mod BlankLaws
 mod Apart
 mod GroupSums
 mod KernelPlanes

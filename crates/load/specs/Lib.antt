@@ -4,7 +4,4 @@ pub mod Offender
 pub mod Blank
 pub mod Weights
 -- laws
-pub mod GroupLaws
-pub mod LoadLaws
 pub mod OffenderLaws
-pub mod BlankLaws

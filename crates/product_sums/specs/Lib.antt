@@ -1,4 +1,3 @@
 -- definitions, in the order of the request
 pub mod ProductSums
 pub mod CallsMade
--- laws

@@ -13,7 +13,7 @@ use Rattle.layer.specs.Shape.{map_count, output_count, channel_of}
 use Rattle.layer.specs.Direct.{direct_at}
 use Rattle.layer.specs.Planned.{Planned}
 use Rattle.load.specs.Load.{load, load_limit, loads_fit, within_peak}
-use Rattle.load.specs.LoadLaws.{peak_bounds, load_fits, loads_from, direct_load}
+use Rattle.load.proofs.LoadLaws.{peak_bounds, load_fits, loads_from, direct_load}
 use Rattle.checks.specs.Engine.{Engine, Lawful}
 use Rattle.checks.specs.Rules.{loads_rule}
 use Rattle.checks.specs.Checks.{shape_rules, output_rules, call_rules, run_rules, plan_code, run_code}

@@ -7,7 +7,7 @@ use Rattle.base.specs.Rules.{first_broken, rules_before}
 use Rattle.base.specs.RulesLaws.{none_broken, both_accept, second_answers, inside_high, outcome_made}
 use Rattle.layer.specs.declared.shape.Layer.{Layer}
 use Rattle.layer.specs.Shape.{is_conv, map_count, kernel_count}
-use Rattle.load.specs.LoadLaws.{weighted}
+use Rattle.load.proofs.LoadLaws.{weighted}
 use Rattle.checks.specs.EngineLaws.{tile_lawful}
 use Rattle.checks.specs.Checks.{shape_rules, output_rules, plan_code}
 use Rattle.checks.specs.ChecksLaws.{planned}

@@ -23,7 +23,7 @@ use Rattle.layer.specs.Windows.{weighed, met_by}
 use Rattle.layer.specs.WindowLaws.{shifted-cell}
 use Rattle.layer.proofs.WeighedLaws.{full_weighed}
 use Rattle.load.specs.Load.{size_total, load, within_peak}
-use Rattle.load.specs.LoadLaws.{load-conv, peak_from}
+use Rattle.load.proofs.LoadLaws.{load-conv, peak_from}
 use Rattle.worst.specs.declared.output.Output.{Output}
 use Rattle.worst.specs.Window.{inside_at}
 use Rattle.worst.specs.WindowLaws.{inside-row}

@@ -3,7 +3,7 @@ use mathlib.Core.Path.{sym, ap, ◌∙◌}
 use mathlib.Core.Bool.{not}
 use Prim.Native.Nat.{ℕ}
 use lib.Dec.{eqb}
-use Rattle.load.specs.BlankLaws.{blank_total}
+use Rattle.load.proofs.BlankLaws.{blank_total}
 use Rattle.load.proofs.judge_channel.Goals as goal
 
 pub returns : goal.returns

@@ -7,7 +7,7 @@ use native.Mathlib.Omega.{arith}
 use borrow.Author.Tests.{le-leb, lt-leb}
 use lib.Dec.{leb}
 use Rattle.load.specs.Load.{size_total}
-use Rattle.load.specs.LoadLaws.{load-conv, load-tconv, load_most}
+use Rattle.load.proofs.LoadLaws.{load-conv, load-tconv, load_most}
 use Rattle.load.proofs.load_fits.Goals as goal
 
 pub overflow_mul-peak : goal.overflow_mul-peak

@@ -1,6 +1,6 @@
 -- `size_total`: the group by 1 has all weights.
 use mathlib.Core.Path.{◌∙◌}
-use Rattle.load.specs.GroupLaws.{whole_group}
+use Rattle.load.proofs.GroupLaws.{whole_group}
 use Rattle.load.proofs.size_total.Goals as goal
 
 pub returns : goal.returns

@@ -8,7 +8,7 @@ use Rattle.algebra.specs.SumLaws.{sum_none, sum_last}
 use Rattle.algebra.specs.PlacesLaws.{part_ends}
 use Rattle.layer.specs.Direct.{plane_of}
 use Rattle.load.specs.Load.{group_total}
-use Rattle.load.specs.LoadLaws.{plane_below}
+use Rattle.load.proofs.LoadLaws.{plane_below}
 use Rattle.load.proofs.KernelPlanes.{plane_group, part_length}
 use Rattle.load.proofs.groups.group_total.Invariants.{group_in, plane_total}
 use Rattle.load.proofs.groups.group_total.Goals as goal

@@ -10,7 +10,7 @@ use Rattle.layer.specs.Planned.{Planned}
 use Rattle.layer.specs.Shape.{kernel_count}
 use Rattle.layer.specs.CountLaws.{kernel_high}
 use Rattle.load.specs.Weights.{Weighted}
-use Rattle.load.specs.LoadLaws.{weighted}
+use Rattle.load.proofs.LoadLaws.{weighted}
 use Rattle.checks.specs.Checks.{plan_code}
 use Rattle.checks.specs.ChecksLaws.{planned}
 use Rattle.checks.specs.EngineLaws.{tile_lawful}

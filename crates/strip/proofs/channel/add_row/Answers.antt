@@ -10,7 +10,7 @@ use Rattle.passes.specs.PartLaws.{part_length}
 use Rattle.spectrum.specs.LendingLaws.{Lending}
 use Rattle.layer.specs.Direct.{plane_of}
 use Rattle.layer.specs.Strip.{strip_words}
-use Rattle.load.specs.LoadLaws.{plane_below}
+use Rattle.load.proofs.LoadLaws.{plane_below}
 use Rattle.strip.proofs.Adding.{RowsReady, rows_ready, accumulate_asks, added_row}
 use Rattle.strip.proofs.channel.add_row.Goals as goal
 use Rattle.strip.proofs.channel.add_row.Goals.{After-line_spectrum, After-planes_to-planes}

@@ -13,7 +13,7 @@ use Rattle.layer.specs.declared.shape.Layer.{Layer}
 use Rattle.layer.specs.Planned.{InRange}
 use Rattle.layer.specs.Direct.{plane_of}
 use Rattle.layer.specs.TileSizeLaws.{length_high}
-use Rattle.load.specs.LoadLaws.{plane_below}
+use Rattle.load.proofs.LoadLaws.{plane_below}
 use Rattle.tile.specs.Channel.{area}
 use Rattle.tile.proofs.KernelReady.{kernel_lent}
 use Rattle.tile.proofs.Adding.{Transformed, transformed, accumulate_asks, kernel_added, added_next}

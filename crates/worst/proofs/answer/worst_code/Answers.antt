@@ -8,7 +8,7 @@ use Rattle.base.specs.Rules.{Rule, first_broken}
 use Rattle.base.specs.RulesLaws.{none_broken, inside_high, first_answers, goes_on}
 use Rattle.layer.specs.Planned.{Planned}
 use Rattle.layer.specs.Shape.{kernel_count}
-use Rattle.load.specs.LoadLaws.{weighted}
+use Rattle.load.proofs.LoadLaws.{weighted}
 use Rattle.checks.specs.Checks.{shape_rules, output_rules, plan_code}
 use Rattle.checks.specs.ChecksLaws.{planned}
 use Rattle.checks.specs.EngineLaws.{tile_lawful}

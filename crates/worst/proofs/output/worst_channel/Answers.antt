@@ -6,7 +6,7 @@ use Rattle.algebra.specs.First.{first_where}
 use Rattle.algebra.specs.Greatest.{greatest, first_greatest}
 use Rattle.algebra.specs.GreatestLaws.{first_greatest_next, first_greatest_stays}
 use Rattle.load.specs.Load.{load}
-use Rattle.load.specs.LoadLaws.{load-conv}
+use Rattle.load.proofs.LoadLaws.{load-conv}
 use Rattle.worst.proofs.output.worst_channel.Goals as goal
 use Rattle.worst.proofs.output.worst_channel.Goals.{After-size_total, then-most-load, else-most-load}
 

@@ -25,7 +25,7 @@ use Rattle.layer.specs.Direct.{when, within, full_at, plane_of}
 use Rattle.layer.proofs.WeighedLaws.{full_weighed}
 use Rattle.load.specs.Load.{size_total, in_group, group_total, greatest_group, load, load_limit, loads_fit, within_peak}
 use Rattle.load.specs.Weights.{Weighted}
-use Rattle.load.specs.GroupLaws.{spread_group, greatest_group_most, greatest_group_at}
+use Rattle.load.proofs.GroupLaws.{spread_group, greatest_group_most, greatest_group_at}
 
 -- the planes that reach a channel are planes of the kernel
 pub plane_below : (l : Layer) (m c : ℕ) → m < l.outputs → c < l.inputs → plane_of l m c < l.outputs * l.inputs
