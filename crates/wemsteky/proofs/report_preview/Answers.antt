@@ -7,7 +7,10 @@ use Rattle.wemsteky.proofs.report_preview.Goals as goal
 
 pub returns : goal.returns
 returns c =
-    record { value = refl; figures_after = ap
+    record {
+      value = refl;
+      figures_after = ap
           (λ (f : List ℕ).
           get_or f 0 0 ∷ get_or f 1 0 ∷ get_or f 2 0 ∷ get_or f 3 0 ∷ get_or f 4 0 ∷ get_or f 5 0 ∷ get_or f 6 0 ∷ c.args.preview.values ∷ [])
-          c.seven_figures-call.ensures }
+          c.seven_figures-call.ensures;
+    }

@@ -10,6 +10,6 @@ pub returns : goal.returns
 returns c =
     let g = c.args in
     let made =
-        previewed (λ (j : Job). preview_of strip_engine j g.budget g.map.now g.kernel.now (length g.output.now) (length g.scratch.now))
-        c.job_of-job.ensures c.preview_strips-preview.ensures c.report_preview.ensures.value c.report_preview.ensures.figures_after
+    previewed (λ (j : Job). preview_of strip_engine j g.budget g.map.now g.kernel.now (length g.output.now) (length g.scratch.now))
+    c.job_of-job.ensures c.preview_strips-preview.ensures c.report_preview.ensures.value c.report_preview.ensures.figures_after
     in record { value = made.0; figures_after = made.1 }

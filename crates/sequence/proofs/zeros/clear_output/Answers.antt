@@ -1,4 +1,3 @@
-use Prim.Native.Nat.{◌-◌}
 use native.Mathlib.Omega.{arith}
 use Rattle.algebra.specs.PlacesLaws.{written_nothing}
 use Rattle.sequence.proofs.Cleared.{zero_next, zero_all}
