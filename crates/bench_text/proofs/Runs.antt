@@ -18,13 +18,13 @@ use Rattle.checks.specs.ChecksLaws.{run_code_lem}
 use Rattle.checks.specs.EngineLaws.{tile_lawful}
 use Rattle.engine.specs.declared.job.Progress.{Progress}
 use Rattle.engine.specs.Call.{start_of, Called}
-use Rattle.engine.specs.CallsLaws.{called_code}
-use Rattle.engine.specs.RunLaws.{run_frame}
+use Rattle.engine.proofs.CallsLaws.{called_code}
+use Rattle.engine.proofs.RunLaws.{run_frame}
 use Rattle.lines.specs.Lines.{tiles_word, refused_word, numbered, rows_text}
 use Rattle.bench_text.specs.Printed.{ran}
 
-module _ {l : Layer} {map kernel output : List ℤ} {scratch : List ℕ} {progress : Progress} {output_left_lem : List ℤ} {scratch_left_lem : List ℕ}
-    (called : Called tile_engine (start_of l) (tile_total l) map kernel output scratch progress output_left_lem scratch_left_lem)
+module _ {l : Layer} {map kernel output : List ℤ} {scratch : List ℕ} {progress : Progress} {left_output : List ℤ} {left_scratch : List ℕ}
+    (called : Called tile_engine (start_of l) (tile_total l) map kernel output scratch progress left_output left_scratch)
   where
     -- the code of the checks
     abbrev checked : ℕ
@@ -47,8 +47,8 @@ module _ {l : Layer} {map kernel output : List ℤ} {scratch : List ℕ} {progre
       run_refused broken = rw (← run_code_is) (outcome_lent _ _ progress.code broken)
 
       pub run_accepted : progress.code ≡ 0
-          → ran l map kernel ≡ numbered tiles_word progress.count ++ rows_text l.columns (length output_left_lem) output_left_lem
+          → ran l map kernel ≡ numbered tiles_word progress.count ++ rows_text l.columns (length left_output) left_output
       unfolding ran
       run_accepted e =
-          let sums : output_left_lem ≡ table (output_count l) (direct_at l map kernel) = rw outputs at (run_frame called tile_lawful e) in
+          let sums : left_output ≡ table (output_count l) (direct_at l map kernel) = rw outputs at (run_frame called tile_lawful e) in
           rw (← run_code_is, e, count_is e, sums, length-table (output_count l) (direct_at l map kernel))

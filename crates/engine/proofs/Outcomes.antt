@@ -79,10 +79,10 @@ module _ (engine : Engine) (job : Job) (budget : ℕ) (map kernel output : List 
         let stopped : code ≡ 0 → ⊥ = λ z. broken (is_code ∙ z) in
         record { answers = answers; writes = sym (outcome_lent _ _ code stopped); clears = sym (outcome_lent _ _ code stopped) }
 
-    pub accepted_call : {output_left_lem : List ℤ} {scratch_left_lem : List ℕ} → progress.code ≡ 0
-        → output_left_lem ≡ finished engine job.layer map kernel job.next progress.job.next output
-        → scratch_left_lem ≡ cleared (engine.words job.layer) scratch
-        → Called engine job budget map kernel output scratch progress output_left_lem scratch_left_lem
+    pub accepted_call : {left_output : List ℤ} {left_scratch : List ℕ} → progress.code ≡ 0
+        → left_output ≡ finished engine job.layer map kernel job.next progress.job.next output
+        → left_scratch ≡ cleared (engine.words job.layer) scratch
+        → Called engine job budget map kernel output scratch progress left_output left_scratch
     accepted_call e parts words =
         let kept : code ≡ 0 = sym is_code ∙ e in
         let to = told_next engine job budget map kernel (length output) (length scratch) answers e in
@@ -92,9 +92,9 @@ module _ (engine : Engine) (job : Job) (budget : ℕ) (map kernel output : List 
           clears = words ∙ sym (outcome_made _ _ kept);
         }
 
-  pub refused_any_budget : {progress : Progress} {output_left_lem : List ℤ} {scratch_left_lem : List ℕ} (other : ℕ) → (code ≡ 0 → ⊥)
-      → Called engine job other map kernel output scratch progress output_left_lem scratch_left_lem
-      → Called engine job budget map kernel output scratch progress output_left_lem scratch_left_lem
+  pub refused_any_budget : {progress : Progress} {left_output : List ℤ} {left_scratch : List ℕ} (other : ℕ) → (code ≡ 0 → ⊥)
+      → Called engine job other map kernel output scratch progress left_output left_scratch
+      → Called engine job budget map kernel output scratch progress left_output left_scratch
   refused_any_budget other broken call = record {
     answers = call.answers ∙ outcome_lent _ _ code broken ∙ sym (outcome_lent _ _ code broken);
     writes = call.writes ∙ outcome_lent _ _ code broken ∙ sym (outcome_lent _ _ code broken);
@@ -102,16 +102,16 @@ module _ (engine : Engine) (job : Job) (budget : ℕ) (map kernel output : List 
   }
 
 -- the plan's total as the budget: the total, or 0 where the plan and thus the call is refused
-pub planned_budget : {progress : Progress} {output_left_lem : List ℤ} {scratch_left_lem : List ℕ}
+pub planned_budget : {progress : Progress} {left_output : List ℤ} {left_scratch : List ℕ}
     (engine : Engine) (l : Layer) (map kernel output : List ℤ) (scratch : List ℕ)
-    → Called engine (start_of l) (plan_of engine l).parts map kernel output scratch progress output_left_lem scratch_left_lem
-    → Called engine (start_of l) (engine.total l) map kernel output scratch progress output_left_lem scratch_left_lem
+    → Called engine (start_of l) (plan_of engine l).parts map kernel output scratch progress left_output left_scratch
+    → Called engine (start_of l) (engine.total l) map kernel output scratch progress left_output left_scratch
 unfolding plan_of
-planned_budget {progress} {output_left_lem} {scratch_left_lem} engine l map kernel output scratch = by_plan (plan_code engine l) refl
+planned_budget {progress} {left_output} {left_scratch} engine l map kernel output scratch = by_plan (plan_code engine l) refl
   where
     by_plan : (code : ℕ) → plan_code engine l ≡ code
-        → Called engine (start_of l) (figures engine code l).parts map kernel output scratch progress output_left_lem scratch_left_lem
-        → Called engine (start_of l) (engine.total l) map kernel output scratch progress output_left_lem scratch_left_lem
+        → Called engine (start_of l) (figures engine code l).parts map kernel output scratch progress left_output left_scratch
+        → Called engine (start_of l) (engine.total l) map kernel output scratch progress left_output left_scratch
     by_plan zero e call = call
     by_plan (suc code) e call =
         refused_any_budget engine (start_of l) (engine.total l) map kernel output scratch 0

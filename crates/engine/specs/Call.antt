@@ -64,13 +64,13 @@ module _ (engine : Engine) where
 
   -- a call of the job with that budget, lent a map, a kernel, an output and scratch, answers `progress` and leaves the last two
   pub record Called
-      (job : Job) (budget : ℕ) (map kernel output : List ℤ) (scratch : List ℕ) (progress : Progress) (output_left_lem : List ℤ) (scratch_left_lem : List ℕ)
+      (job : Job) (budget : ℕ) (map kernel output : List ℤ) (scratch : List ℕ) (progress : Progress) (left_output : List ℤ) (left_scratch : List ℕ)
       : Type 0
     where
       pub answers : progress ≡ answer_of job budget map kernel (length output) (length scratch)
-      pub writes : output_left_lem ≡ outcome (call_code job map kernel (length output) (length scratch))
+      pub writes : left_output ≡ outcome (call_code job map kernel (length output) (length scratch))
           (finished job.layer map kernel job.next (job.next + count_of job budget) output) output
-      pub clears : scratch_left_lem ≡ outcome (call_code job map kernel (length output) (length scratch))
+      pub clears : left_scratch ≡ outcome (call_code job map kernel (length output) (length scratch))
           (cleared (engine.words job.layer) scratch) scratch
 
   -- ---- a whole run: the job from part 0 with the total as its budget

@@ -17,9 +17,9 @@ pub record Call (engine : Engine) : Type 0 where
   pub output : List ℤ
   pub scratch : List ℕ
   pub progress : Progress
-  pub output_left_lem : List ℤ
-  pub scratch_left_lem : List ℕ
-  pub promise : Called engine job budget map kernel output scratch progress output_left_lem scratch_left_lem
+  pub left_output : List ℤ
+  pub left_scratch : List ℕ
+  pub promise : Called engine job budget map kernel output scratch progress left_output left_scratch
 
 module _ {engine : Engine} where
   -- the calls follow one another from a job and a buffer on, and accepted ones are lent one map and kernel
@@ -28,7 +28,7 @@ module _ {engine : Engine} where
   Chained map kernel job output (call ∷ calls) =
       (call.job ≡ job) × (call.output ≡ output)
       × (call.progress.code ≡ 0 → (call.map ≡ map) × (call.kernel ≡ kernel))
-      × Chained map kernel call.progress.job call.output_left_lem calls
+      × Chained map kernel call.progress.job call.left_output calls
 
   -- the job and the buffer after the calls
   abbrev pub job_after : Job → List (Call engine) → Job
@@ -37,7 +37,7 @@ module _ {engine : Engine} where
 
   abbrev pub output_after : List ℤ → List (Call engine) → List ℤ
   output_after output [] = output
-  output_after output (call ∷ calls) = output_after call.output_left_lem calls
+  output_after output (call ∷ calls) = output_after call.left_output calls
 
   -- how many calls were accepted, and the sum of their budgets
   abbrev pub accepted_calls : List (Call engine) → ℕ

@@ -6,7 +6,3 @@ pub mod Previews
 -- laws
 pub mod AnswerLaws
 pub mod FinishedLaws
-pub mod CallsLaws
-pub mod RunLaws
-pub mod EnginesLaws
-pub mod PreviewsLaws

@@ -20,7 +20,7 @@ use Rattle.checks.specs.declared.method.Method.{Method}
 use Rattle.checks.specs.Engine.{Engine, engine_of, Lawful}
 use Rattle.checks.specs.EngineLaws.{lawful}
 use Rattle.engine.specs.Calls.{JobCalls, output_of, Reaches}
-use Rattle.engine.specs.CallsLaws.{calls_callable, reached}
+use Rattle.engine.proofs.CallsLaws.{calls_callable, reached}
 use Rattle.product_sums.specs.ProductSums.{NotCropped, Matched, remainder, Paired, EvenlyPaired, SumsAgree}
 
 -- ---- the output of a layer that is not cropped

@@ -21,7 +21,7 @@ use Rattle.engine.specs.declared.job.Job.{Job}
 use Rattle.engine.specs.declared.job.Progress.{Progress}
 use Rattle.engine.specs.Call.{start_of, finished, cleared, call_code, Called, output_left, scratch_left}
 use Rattle.engine.specs.Calls.{Call, JobCalls, accepted_budgets, Reaches}
-use Rattle.engine.specs.CallsLaws.{called_code, output_length, scratch_length, call_callable, cleared_again, calls_job, calls_output}
+use Rattle.engine.proofs.CallsLaws.{called_code, output_length, scratch_length, call_callable, cleared_again, calls_job, calls_output}
 use Rattle.product_sums.specs.ProductSums.{Paired, SumsAgree}
 use Rattle.product_sums.specs.CallsMade.{CallsMade}
 use Rattle.product_sums.proofs.ProductSumsLaws.{product_sums}
@@ -61,8 +61,8 @@ module _ {engine : Engine} (lawful : Lawful engine) (l : Layer) (budget : ℕ) (
       output = output-0;
       scratch = scratch-0;
       progress = progress-1;
-      output_left_lem = output-1;
-      scratch_left_lem = scratch-1;
+      left_output = output-1;
+      left_scratch = scratch-1;
       promise = first;
     }
 
@@ -75,8 +75,8 @@ module _ {engine : Engine} (lawful : Lawful engine) (l : Layer) (budget : ℕ) (
       output = output-1;
       scratch = scratch-1;
       progress = progress-2;
-      output_left_lem = output-2;
-      scratch_left_lem = scratch-2;
+      left_output = output-2;
+      left_scratch = scratch-2;
       promise = second;
     }
 
@@ -89,8 +89,8 @@ module _ {engine : Engine} (lawful : Lawful engine) (l : Layer) (budget : ℕ) (
       output = output-2;
       scratch = scratch-2;
       progress = progress-3;
-      output_left_lem = output-3;
-      scratch_left_lem = scratch-3;
+      left_output = output-3;
+      left_scratch = scratch-3;
       promise = third;
     }
 

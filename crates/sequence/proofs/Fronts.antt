@@ -18,7 +18,7 @@ use Rattle.levels.specs.Answer.{levels_code, levels_of, levels_left}
 use Rattle.engine.specs.declared.job.Progress.{Progress}
 use Rattle.engine.specs.Call.{start_of, Called}
 use Rattle.engine.specs.AnswerLaws.{answer_code}
-use Rattle.engine.specs.RunLaws.{run_frame}
+use Rattle.engine.proofs.RunLaws.{run_frame}
 use Rattle.steps.specs.declared.step.Step.{Step}
 use Rattle.steps.specs.Steps.{kernel_at}
 use Rattle.sequence.specs.Sequence.{sums_of}
@@ -26,8 +26,8 @@ use Rattle.sequence.specs.Ready.{RunReady, LevelsReady}
 use Rattle.sequence.specs.ReadyLaws.{run_accepted}
 
 -- a run that is accepted leaves the direct sums
-run_left : {l : Layer} {map kernel output : List ℤ} {scratch : List ℕ} {progress : Progress} {left : List ℤ} {scratch_left_lem : List ℕ}
-    → Called tile_engine (start_of l) (tile_total l) map kernel output scratch progress left scratch_left_lem
+run_left : {l : Layer} {map kernel output : List ℤ} {scratch : List ℕ} {progress : Progress} {left : List ℤ} {left_scratch : List ℕ}
+    → Called tile_engine (start_of l) (tile_total l) map kernel output scratch progress left left_scratch
     → length output ≡ output_count l → run_code tile_engine l map kernel (output_count l) (length scratch) ≡ 0 → left ≡ sums_of l map kernel
 run_left {l} {map} {kernel} {output} {scratch} {progress} called size passed =
     let asked : run_code tile_engine l map kernel (length output) (length scratch) ≡ 0 = rw size passed in
@@ -38,11 +38,11 @@ run_left {l} {map} {kernel} {output} {scratch} {progress} called size passed =
     rw size at (run_frame called tile_lawful code)
 
 -- the run of step k, by the code's names of the step, its counts and its kernel
-pub sums_left : {steps : ℕ → Step} {k : ℕ} {map kernels kernel left : List ℤ} (output : List ℤ) {scratch scratch_left_lem : List ℕ} {progress : Progress}
+pub sums_left : {steps : ℕ → Step} {k : ℕ} {map kernels kernel left : List ℤ} (output : List ℤ) {scratch left_scratch : List ℕ} {progress : Progress}
     {step : Step} {values outputs : ℕ}
     → step ≡ steps k → values ≡ map_count step.layer → outputs ≡ output_count step.layer → kernel ≡ kernel_at steps kernels k
     → RunReady steps k map kernels (length output) (length scratch)
-    → Called tile_engine (start_of step.layer) (tile_total step.layer) (take values map) kernel (take outputs output) scratch progress left scratch_left_lem
+    → Called tile_engine (start_of step.layer) (tile_total step.layer) (take values map) kernel (take outputs output) scratch progress left left_scratch
     → take (output_count (steps k).layer) (left ++ drop outputs output)
     ≡ sums_of (steps k).layer (take (map_count (steps k).layer) map) (kernel_at steps kernels k)
 sums_left {steps} {k} {map} {kernels} {kernel} {left} output {scratch} is values-are outputs-are kernel_is ready called =

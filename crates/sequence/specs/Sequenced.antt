@@ -20,11 +20,11 @@ room_of first second output scratch final =
 -- buffer, zeros in the others; a refusal leaves each as it was lent
 pub record Sequenced
     (count : ℕ) (numbers : List ℕ) (map kernels first second output : List ℤ) (scratch : List ℕ) (final : List ℤ) (answer : Checked)
-    (first-left second-left output_left_lem : List ℤ) (scratch_left_lem : List ℕ) (final-left : List ℤ) : Type 0
+    (first-left second-left left_output : List ℤ) (left_scratch : List ℕ) (final-left : List ℤ) : Type 0
   where
     pub answers : answer ≡ sequence_answer count (step_at numbers) map kernels (room_of first second output scratch final)
     pub grows : final-left ≡ outcome answer.code (map_after (step_at numbers) map kernels count) final
     pub clears_first : first-left ≡ outcome answer.code (zeros (pos 0) first) first
     pub clears_second : second-left ≡ outcome answer.code (zeros (pos 0) second) second
-    pub clears_output : output_left_lem ≡ outcome answer.code (zeros (pos 0) output) output
-    pub clears_scratch : scratch_left_lem ≡ outcome answer.code (zeros 0 scratch) scratch
+    pub clears_output : left_output ≡ outcome answer.code (zeros (pos 0) output) output
+    pub clears_scratch : left_scratch ≡ outcome answer.code (zeros 0 scratch) scratch

@@ -11,10 +11,10 @@ use Rattle.engine.specs.Call.{Called}
 use Rattle.wemsteky.specs.Figures.{progress_figures, preview_figures, Reported}
 
 pub reported : {engine : Engine} {A : Type 0} (job : A → Job) (budget : A → ℕ) {given l : A} → l ≡ given
-    → {map kernel output : List ℤ} {scratch : List ℕ} {progress : Progress} {output_left_lem : List ℤ} {scratch_left_lem : List ℕ}
-    → Called engine (job l) (budget l) map kernel output scratch progress output_left_lem scratch_left_lem
+    → {map kernel output : List ℤ} {scratch : List ℕ} {progress : Progress} {left_output : List ℤ} {left_scratch : List ℕ}
+    → Called engine (job l) (budget l) map kernel output scratch progress left_output left_scratch
     → {code : ℕ} {figures : List ℕ} → code ≡ progress.code → figures ≡ progress_figures progress
-    → Reported engine (job given) (budget given) map kernel output scratch code figures output_left_lem scratch_left_lem
+    → Reported engine (job given) (budget given) map kernel output scratch code figures left_output left_scratch
 reported job budget same {progress = progress} called e f = record { progress = progress; called = rw same at called; code_is = e; figures_are = f }
 
 -- a preview's answer as the call's code and eight figures

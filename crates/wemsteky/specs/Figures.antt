@@ -28,20 +28,20 @@ preview_figures preview = progress_figures preview.progress ++ (preview.values �
 
 -- a call of a job whose answer comes as its code and seven figures
 pub record Reported
-    (engine : Engine) (job : Job) (budget : ℕ) (map kernel output : List ℤ) (scratch : List ℕ) (code : ℕ) (figures : List ℕ) (output_left_lem : List ℤ) (scratch_left_lem : List ℕ)
+    (engine : Engine) (job : Job) (budget : ℕ) (map kernel output : List ℤ) (scratch : List ℕ) (code : ℕ) (figures : List ℕ) (left_output : List ℤ) (left_scratch : List ℕ)
     : Type 0
   where
     pub progress : Progress
-    pub called : Called engine job budget map kernel output scratch progress output_left_lem scratch_left_lem
+    pub called : Called engine job budget map kernel output scratch progress left_output left_scratch
     pub code_is : code ≡ progress.code
     pub figures_are : figures ≡ progress_figures progress
 
 -- a sequence whose answer comes as its code and four figures
 pub record SequenceReported
     (count : ℕ) (numbers : List ℕ) (map kernels first second output : List ℤ) (scratch : List ℕ) (final : List ℤ) (code : ℕ) (figures : List ℕ)
-    (first-left second-left output_left_lem : List ℤ) (scratch_left_lem : List ℕ) (final-left : List ℤ) : Type 0
+    (first-left second-left left_output : List ℤ) (left_scratch : List ℕ) (final-left : List ℤ) : Type 0
   where
     pub answer : Checked
-    pub sequenced : Sequenced count numbers map kernels first second output scratch final answer first-left second-left output_left_lem scratch_left_lem final-left
+    pub sequenced : Sequenced count numbers map kernels first second output scratch final answer first-left second-left left_output left_scratch final-left
     pub code_is : code ≡ answer.code
     pub figures_are : figures ≡ offender_figures answer.offender

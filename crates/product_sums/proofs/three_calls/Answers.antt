@@ -2,7 +2,7 @@
 use mathlib.Core.Path.{refl, ap, ◌∙◌}
 use Rattle.checks.specs.EngineLaws.{lawful}
 use Rattle.layer.specs.declared.shape.Plan.{Plan}
-use Rattle.engine.specs.CallsLaws.{output_length, scratch_length}
+use Rattle.engine.proofs.CallsLaws.{output_length, scratch_length}
 use Rattle.product_sums.proofs.ThreeCalls.{three_calls}
 use Rattle.product_sums.proofs.three_calls.Goals as goal
 

@@ -16,7 +16,7 @@ use Rattle.engine.specs.declared.preview.Preview.{Preview}
 use Rattle.engine.specs.Call.{start_of, count_of, answer_of}
 use Rattle.engine.specs.Calls.{Call, Chained, job_after, accepted_budgets, Reaches}
 use Rattle.engine.specs.AnswerLaws.{by_answer, answer_layer, answer_order}
-use Rattle.engine.specs.CallsLaws.{call_callable, calls_job, calls_callable}
+use Rattle.engine.proofs.CallsLaws.{call_callable, calls_job, calls_callable}
 use Rattle.engine.specs.Preview.{values_of, preview_of}
 use Rattle.engine.specs.Previews.{TriedCall, Step, tried, called, calls_of, values_told, JobSteps, job_calls}
 
@@ -80,7 +80,7 @@ module _ {engine : Engine} where
       record { order = rest.order; values = rest.values }
   added map kernel job output (called step ∷ steps) (same_job, same_output, lent, chained) =
       let call = step.call in
-      let rest = added map kernel call.progress.job call.output_left_lem steps chained in
+      let rest = added map kernel call.progress.job call.left_output steps chained in
       let to = (job_after call.progress.job (calls_of steps)).next in
       let low : job.next ≤ call.progress.job.next = rw same_job at (moved_order call) in
       let here = tried_values step ∙ ap (λ (j : Job). values_in engine j.layer j.next call.progress.job.next) same_job in

@@ -9,8 +9,8 @@ use Rattle.checks.specs.Engine.{Engine, Lawful}
 use Rattle.engine.specs.declared.job.Progress.{Progress}
 use Rattle.engine.specs.Call.{start_of, Called}
 use Rattle.engine.specs.Calls.{JobCalls, output_of, Reaches}
-use Rattle.engine.specs.CallsLaws.{calls_callable, reached}
-use Rattle.engine.specs.RunLaws.{run_list, run_output, run_reaches}
+use Rattle.engine.proofs.CallsLaws.{calls_callable, reached}
+use Rattle.engine.proofs.RunLaws.{run_list, run_output, run_reaches}
 
 -- two lists of calls, each of an engine, with one layer, map and kernel; refused calls may stand between
 pub outputs_agree : {one other : Engine} → Lawful one → Lawful other → {l : Layer} {map kernel : List ℤ}

@@ -31,8 +31,8 @@ outcome-length made lent left zero e same = ap length e ∙ same
 outcome-length made lent left (suc code) e same = ap length e
 
 module _ {engine : Engine} {job : Job} {budget : ℕ} {map kernel output : List ℤ} {scratch : List ℕ}
-    {progress : Progress} {output_left_lem : List ℤ} {scratch_left_lem : List ℕ}
-    (call : Called engine job budget map kernel output scratch progress output_left_lem scratch_left_lem)
+    {progress : Progress} {left_output : List ℤ} {left_scratch : List ℕ}
+    (call : Called engine job budget map kernel output scratch progress left_output left_scratch)
   where
     abbrev called : ℕ
     called = call_code engine job map kernel (length output) (length scratch)
@@ -64,12 +64,12 @@ module _ {engine : Engine} {job : Job} {budget : ℕ} {map kernel output : List 
         ∙ placed_number engine job.layer map kernel (length output) (length scratch) job.next (rw called_code at placed))
 
     -- no call changes the length of a buffer
-    pub output_length : length output_left_lem ≡ length output
+    pub output_length : length left_output ≡ length output
     output_length =
         outcome-length _ _ _ called call.writes
         (length-finished engine job.layer map kernel job.next (job.next + count_of engine job budget) output)
 
-    pub scratch_length : length scratch_left_lem ≡ length scratch
+    pub scratch_length : length left_scratch ≡ length scratch
     unfolding cleared
     scratch_length = outcome-length _ _ _ called call.clears (length-table (length scratch) _)
 
@@ -77,13 +77,13 @@ module _ {engine : Engine} where
   -- what an accepted call comes to
   record Took (call : Call engine) : Type 0 where
     moved : call.progress.job ≡ record { layer = call.job.layer; next = call.job.next + count_of engine call.job call.budget }
-    writes : call.output_left_lem ≡ finished engine call.job.layer call.map call.kernel
+    writes : call.left_output ≡ finished engine call.job.layer call.map call.kernel
         call.job.next (call.job.next + count_of engine call.job call.budget) call.output
 
   -- what a refused one comes to
   record Kept (call : Call engine) : Type 0 where
     moved : call.progress.job ≡ call.job
-    writes : call.output_left_lem ≡ call.output
+    writes : call.left_output ≡ call.output
 
   module _ (call : Call engine) where
     abbrev checked : ℕ
@@ -136,10 +136,10 @@ module _ (engine : Engine) (l : Layer) (map kernel first : List ℤ) where
 
   after_call : (budgets : ℕ) (call : Call engine) → (call.progress.code ≡ 0 → (call.map ≡ map) × (call.kernel ≡ kernel))
       → After budgets call.job call.output
-      → After (budgets + outcome call.progress.code call.budget 0) call.progress.job call.output_left_lem
+      → After (budgets + outcome call.progress.code call.budget 0) call.progress.job call.left_output
   after_call budgets call lent before = go call.progress.code refl
     where
-      go : (code : ℕ) → call.progress.code ≡ code → After (budgets + outcome code call.budget 0) call.progress.job call.output_left_lem
+      go : (code : ℕ) → call.progress.code ≡ code → After (budgets + outcome code call.budget 0) call.progress.job call.left_output
       go zero e =
           let t : Took call = took call e in
           let to = reach (engine.total l) budgets call.budget in
@@ -171,10 +171,10 @@ passes : {engine : Engine} → Lawful engine → {map kernel : List ℤ} (job : 
     → Chained map kernel job output calls → 0 < accepted_calls calls → Passes engine job.layer map kernel (length output)
 passes lawful job output [] chained some = absurd (omega arith)
 passes {engine} lawful {map} {kernel} job output (call ∷ calls) (same_job, same_output, lent, rest) some =
-    go call.progress.code refl (passes lawful call.progress.job call.output_left_lem calls rest)
+    go call.progress.code refl (passes lawful call.progress.job call.left_output calls rest)
   where
     go : (code : ℕ) → call.progress.code ≡ code
-        → (0 < accepted_calls calls → Passes engine call.progress.job.layer map kernel (length call.output_left_lem))
+        → (0 < accepted_calls calls → Passes engine call.progress.job.layer map kernel (length call.left_output))
         → Passes engine job.layer map kernel (length output)
     go zero e later = record {
       scratch = length call.scratch;
