@@ -1,20 +1,24 @@
 // The bench program: reads one layer with its map and kernel from standard input, and writes its answer to standard output.
 #![tactic(auto)]
 
-ghost use Rattle.std.specs.Prelude.{◌≤◌, length, IfOk};
+ghost use Rattle.std.specs.Prelude.{◌≤◌, ◌<◌, length, take, IfOk};
+ghost use Rattle.std.specs.Io.KnownBytes.{Consumes, IsAtEnd};
 
 use bench_text::answer::answer;
 use std::io::{self, Print, Read};
 
-// Reads until the buffer is full or the input ends, and hands back how many bytes were read.
+// Reads until the buffer is full or the input ends, and hands back how many bytes were read: they stand at the front of the buffer. After an error
+// nothing is said of the buffer and of what is left of the input.
 fn read_full<R: Read>(reader: &mut R, buffer: &mut [u8]) -> io::Result<usize>
-    ensures { IfOk result (λ count. count ≤ length buffer.new) }
+    ensures bound { IfOk result (λ count. count ≤ length buffer.new) }
+    ensures bytes { IfOk result (λ count. Consumes (R.remaining reader.old) (R.remaining reader.new) (take count buffer.new)) }
+    ensures end { IfOk result (λ count. count < length buffer.new → IsAtEnd (R.remaining reader.new)) }
 {
     let mut count = 0;
     while count < buffer.len() {
         let more = reader.read(&mut buffer[count..])?;
         if more == 0 {
-            break;
+            return Ok(count);
         }
         count += more;
     }

@@ -1,9 +1,12 @@
--- `read_full`: the bytes that are read lie in the buffer, and each round reads one at least.
-use Rattle.std.proofs.Common.{length, ◌-◌, ◌≤◌}
+-- `read_full`: the bytes that are read stand at the front of the buffer, and each round reads one at least.
+use Rattle.std.proofs.Common.{length, take, ◌≡◌, ◌-◌, ◌≤◌}
+use Rattle.std.specs.Io.KnownBytes.{Consumes}
 use Rattle.bench.proofs.read_full.Given as goal
 
 abbrev pub invariant-loop-count : goal.invariant-loop-count
-invariant-loop-count g l = l.count ≤ length l.buffer
+invariant-loop-count g l =
+    (length l.buffer ≡ length l.initial.buffer) × (l.count ≤ length l.buffer)
+    × Consumes (g.R.Read.remaining l.initial.reader) (g.R.Read.remaining l.reader) (take l.count l.buffer)
 
 abbrev pub decreases-loop-count : goal.decreases-loop-count
 decreases-loop-count g l = length l.buffer - l.count
