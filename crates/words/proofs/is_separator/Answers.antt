@@ -1,4 +1,4 @@
--- `is_separator` makes the two tests of `is_separator`.
+-- `is_separator` makes the two tests of its definition.
 use borrow.Author.Tests.{ne_eqb}
 use Rattle.words.proofs.is_separator.Goals as goal
 
