@@ -1,8 +1,9 @@
 -- Laws of quotients: as many parts of d as the quotient rounded up cover n places, and the quotient rounded down tells the part of a place.
-use Rattle.std.specs.Prelude.{◌≡◌, ℕ, suc, ◌+◌, ◌*◌, ◌-◌, ◌/◌, ◌<◌, ◌≤◌}
-use Rattle.std.proofs.Common.{ap, ◌∙◌, div-lt_iff_lt-mul, div-mul-le_self, mul-le-mul_right, suc-mul, arith}
+use Rattle.std.specs.Prelude.{◌≡◌, ℕ, suc, ◌+◌, ◌*◌, ◌-◌, ◌/◌, ◌%◌, ◌<◌, ◌≤◌, min}
+use Rattle.std.proofs.Common.{sym, ap, ◌∙◌, div-lt_iff_lt-mul, div-mul-le_self, mul-le-mul_right, suc-mul, arith}
 use Rattle.std.proofs.Math.Nat.{lt-div-mul-add}
 use Rattle.std.proofs.Math.Arith.{digits_div}
+use Rattle.std.proofs.lemmas.Grind.{div_ceil_times}
 use Rattle.base.specs.Number.{ceiling_div}
 
 -- so many parts of d cover n places
@@ -44,3 +45,11 @@ pub quotient_is : (d x t : ℕ) → t * d ≤ x → x < t * d + d → x / d ≡ 
 quotient_is d x t low high =
     let e : x ≡ t * d + (x - t * d) = omega arith in
     ap (λ (k : ℕ). k / d) e ∙ digits_div t (omega arith)
+
+-- a quotient rounded up is the quotient rounded down, and one more where something remains
+pub div_ceil_is : (n d : ℕ) → 0 < d → n / d + min 1 (n % d) ≡ ceiling_div n d
+unfolding ceiling_div
+div_ceil_is n d some =
+    let low : (n / d + min 1 (n % d)) * d ≤ n + d - 1 = omega (arith, div_ceil_times n d some) in
+    let high : n + d - 1 < (n / d + min 1 (n % d)) * d + d = omega (arith, div_ceil_times n d some) in
+    sym (quotient_is d (n + d - 1) (n / d + min 1 (n % d)) low high)

@@ -1,9 +1,9 @@
 -- Laws of a check that asks one rule after another: its answer has the number of the first rule that is broken. They rest on the definitions alone.
-use Rattle.std.specs.Prelude.{◌≡◌, refl, Bool, true, false, cond, List, [], ◌∷◌, ◌++◌, ℕ, ◌<◌, T, Result, Ok, Err}
+use Rattle.std.specs.Prelude.{◌≡◌, refl, Bool, true, false, cond, List, ◌++◌, ℕ, ◌<◌, T, Result, Ok, Err}
 use Rattle.std.proofs.Common.{sym, ap, ◌∙◌, arith}
 use Rattle.base.specs.declared.rules.Refusal.{Refusal}
 use Rattle.base.specs.declared.rules.Refusal.TheVariants.{Kind, Field, Channels, MapSize, KernelSide, Stride, Padding, Output, Crop, MapLength, KernelLength, OutputLength, ScratchLength, Peak, ValueAbove, Load, Index, WordCount, Residues, Levels, StepCount, Links, Added, BlankChannel, ValueBelow, Filter, JoinedSide, JoinedWeight, NoWindow}
-use Rattle.base.specs.Rules.{Rule, rule, first_broken}
+use Rattle.base.specs.Rules.{Rule, first_broken}
 use Rattle.base.specs.RulesLaws.{numbered, both_tests, equal_tests, most_tests, first_answers, goes_on}
 use Rattle.base.specs.Refusals.{number_of, required, code_of}
 
