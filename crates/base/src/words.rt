@@ -7,9 +7,5 @@ pub fn clear(words: &mut [u64], from: usize, to: usize)
     requires { (from ≤ to) × (to ≤ length words.old) }
     ensures { Written 0 (Run from (to - from)) (λ _. 0) words.old words.new }
 {
-    let mut i = from;
-    while i < to {
-        words[i] = 0;
-        i += 1;
-    }
+    words[from..to].fill(0);
 }
