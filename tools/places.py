@@ -30,6 +30,13 @@ def functions(text):
     return found
 
 
+def shape(parameters, body):
+    """A function with its names and numbers left out: twins have the same."""
+    seen = {}
+    tokens = re.findall(r"[A-Za-z_]\w*|\d+|[^\s\w]", re.sub(r"//.*", "", parameters + body))
+    return " ".join(str(seen.setdefault(t, len(seen))) if re.match(r"\w", t) else t for t in tokens)
+
+
 def main():
     arguments = [a for a in sys.argv[1:] if a != "--list"]
     top = pathlib.Path(arguments[0] if arguments else ".")
@@ -48,7 +55,8 @@ def main():
     ]
     facts = r"\b(Planned|InRange|Weighted|RootPowers|Bound|Callable|IsGroup|Joinable|MadeFor|AllPlanned|LentLengths|StripLengths|StripOriginInRange|Grid|Square|Storable)\b"
     held = {}
-    clocks = {}
+    groups = {}
+    shapes = {}
     for path in sorted(top.glob("crates/*/src/**/*.rt")):
         text = path.read_text()
         lines = text.split("\n")
@@ -63,6 +71,10 @@ def main():
             requires = "".join(re.findall(r"requires[^{]*\{.*", clauses))
             for fact in set(re.findall(facts, requires)):
                 held.setdefault(fact, []).append((path, line, name))
+            if re.match(r"\s*(?:self\.)?\w+_by\(Method::\w+, [^;{]*\)\s*\}$", body):
+                add("2 an instance of a function at one constant", path, line, name)
+            if len(body.split()) > 8:
+                shapes.setdefault(shape(parameters, body), []).append((path, line, name))
             names = re.findall(r"(\w+): ", parameters)
             for buffer, place in (("lines", "at"), ("words", "at"), ("output", "at"), ("values", "from"), ("words", "from"), ("text", "at"), ("words", "count")):
                 if buffer in names and place in names:
@@ -70,18 +82,26 @@ def main():
                     break
             for group in (("bits", "bound"), ("lanes", "bits"), ("n", "halvings", "bits")):
                 if all(g in names for g in group):
-                    clocks.setdefault(" ".join(group), []).append((path, line, name))
+                    groups.setdefault(" ".join(group), []).append((path, line, name))
     for fact, where in held.items():
         if len(where) >= 3:
             for path, line, name in where:
                 add("5 a fact in three contracts or more", path, line, f"{fact} in {name}")
-    for group, where in clocks.items():
+    for group, where in groups.items():
         if len(where) >= 3:
             for path, line, name in where:
                 add("5 parameters that travel together", path, line, f"{group} in {name}")
+    for where in shapes.values():
+        if len(where) > 1:
+            for path, line, name in where:
+                add("2 functions of one shape", path, line, f"{name}, as {', '.join(n for _, _, n in where if n != name)}")
+    for path in sorted(top.glob("crates/*/proofs/**/*.antt")):
+        if path.name in ("Answers.antt", "Invariants.antt", "Proof.antt"):
+            for number, line in enumerate(path.read_text().split("\n")[:-1], 1):
+                add("8 lines of answers and invariants", path, number, line)
     for count in sorted(places):
         print(f"{len(places[count]):4} {count}")
-        if "--list" in sys.argv:
+        if "--list" in sys.argv and not count.startswith("8"):
             for place in places[count]:
                 print(f"       {place}")
 
