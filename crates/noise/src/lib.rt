@@ -7,18 +7,15 @@ ghost use Rattle.noise.specs.Draw.{noise_left, last_seed};
 mod draw;
 
 // Fills the map in order and returns the last seed; an empty map returns the seed. Every input is accepted.
+#[tactic(auto, unfolding(crate::specs::Draw::seed_after))]
 pub fn fill(seed: u32, map: &mut [i16]) -> u32
     ensures value { result ≡ last_seed seed map.old }
     ensures map_after { map.new ≡ noise_left seed map.old }
 {
     let mut drawn = seed;
-    let mut i = 0;
-    while i < map.len() {
-        let next = draw::next_seed(drawn);
-        let value = draw::value_of(next);
-        map[i] = value;
-        drawn = next;
-        i += 1;
+    for value in map.iter_mut() {
+        drawn = draw::next_seed(drawn);
+        *value = draw::value_of(drawn);
     }
     drawn
 }
