@@ -2,7 +2,8 @@
 ghost use Rattle.std.specs.Prelude.{◌≤◌, length};
 
 use crate::print;
-use checks::planner::plan;
+use checks::method::Method;
+use checks::planner::plan_by;
 use layer::shape::Layer;
 use std::io::{self, Print};
 use vectors::text::line;
@@ -52,7 +53,7 @@ fn run_case(
     requires { length output.old ≤ 1024 }
 {
     let mut scratch = [0u64; 12288];
-    let progress = engine::run(layer, map, kernel, output, &mut scratch);
+    let progress = engine::run_by(Method::Tiles, layer, map, kernel, output, &mut scratch);
     print::case(out, number, progress.code as u64, progress.count as u64)?;
     if progress.code == 0 {
         print::rows(out, output, layer.columns)?;
@@ -124,7 +125,7 @@ fn loads(out: &impl Print) -> io::Result<()> {
 
 // The number of the case and the planner's answer.
 fn plan_case(out: &impl Print, number: u64, layer: Layer) -> io::Result<()> {
-    let figures = plan(layer);
+    let figures = plan_by(Method::Tiles, layer);
     print::case(out, number, figures.code as u64, figures.parts as u64)
 }
 
@@ -143,7 +144,14 @@ fn is_beyond(peak: usize) -> bool {
     let mut one = [0i32; 1];
     let mut scratch = [0u64; 3072];
     let layer = whole(0, 4, 1, 1, 1, 1, 0, peak, 1, 1);
-    let progress = engine::run(layer, &[-32768i16], &[0i16], &mut one, &mut scratch);
+    let progress = engine::run_by(
+        Method::Tiles,
+        layer,
+        &[-32768i16],
+        &[0i16],
+        &mut one,
+        &mut scratch,
+    );
     progress.code == 25 && progress.offender.side == 2
 }
 

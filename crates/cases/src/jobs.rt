@@ -2,6 +2,7 @@
 ghost use Rattle.std.specs.Prelude.{◌≤◌, length};
 
 use crate::print;
+use checks::method::Method;
 use engine::job::Job;
 use layer::shape::Layer;
 use std::io::{self, Print};
@@ -20,7 +21,7 @@ fn stop(
     requires { length output.old ≤ 1024 }
 {
     let mut scratch = [7u64; 12289];
-    let progress = job.advance(budget, map, kernel, output, &mut scratch);
+    let progress = job.advance_by(Method::Tiles, budget, map, kernel, output, &mut scratch);
     let answer = [
         budget as u64,
         progress.code as u64,
