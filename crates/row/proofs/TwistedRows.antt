@@ -1,31 +1,18 @@
--- The loops of the twist: the factors of a row from the table, and rows that are multiplied by theirs, one after another. They rest on the laws of
--- the table and of a part that is lent.
+-- The loop of the twist: rows that are multiplied by their factors, one after another. It rests on the laws of a part that is lent.
 use mathlib.Core.Path.{◌≡◌, refl, sym, ap, ◌∙◌, subst}
 use mathlib.Core.List.{List}
-use Prim.Native.Nat.{ℕ, ◌+◌, ◌*◌, ◌%◌, ◌^◌, ◌<◌, ◌≤◌}
-use native.Mathlib.Nat.{mod-lt}
+use Prim.Native.Nat.{ℕ, ◌+◌, ◌*◌, ◌^◌, ◌<◌, ◌≤◌}
 use native.Mathlib.Decide.{dec_lt}
 use native.Mathlib.Omega.{arith}
 use lib.ListN.{length, get_or}
 use borrow.Rule.Slice.PartMut.{mid_of, put_mid}
 use Rattle.algebra.specs.PlacesLaws.{get_d_put_mid, get_d_put_mid_before, get_d_put_mid_after}
-use Rattle.algebra.specs.CongruenceLaws.{c_eq, c_refl, ◌⨟◌, c_via, c_mul}
+use Rattle.algebra.specs.CongruenceLaws.{c_refl, ◌⨟◌, c_via, c_mul}
 use Rattle.passes.specs.Halving.{word}
 use Rattle.passes.specs.PartLaws.{part-word}
 use Rattle.spectrum.specs.Product.{Settled}
-use Rattle.row.specs.Powers.{row_root, RootPowers}
-use Rattle.row.specs.PowersLaws.{power_at, power_below}
-use Rattle.row.proofs.RootLaws.{root_one}
-use Rattle.fermat.specs.LengthLaws.{power_modulo}
+use Rattle.row.specs.Powers.{row_root}
 use Rattle.row.specs.Row.{frequency_of, Factors, Multiplied, Twisted}
-
-pub factors : (step : ℕ) (powers xs : List ℕ) → RootPowers powers
-    → ((j : ℕ) → j < 16 → get_or xs j 0 ≡ get_or powers (j * step % 256) 0) → Factors step xs
-factors step powers xs table is = record {
-  value = λ j h.
-      c_eq (is j h) ⨟ power_at table (j * step % 256) (mod-lt (j * step) (omega arith)) ⨟ power_modulo 256 row_root (j * step) root_one;
-  below = λ j h. rw (is j h) (power_below table (omega arith) (j * step % 256) (mod-lt (j * step) (omega arith)));
-}
 
 -- the rows before `count` are done, and the others are as they were
 pub record Twisting (unit count : ℕ) (xs ys : List ℕ) : Type 0 where

@@ -10,22 +10,21 @@ ghost use Rattle.fermat.specs.Field.{modulus};
 ghost use Rattle.passes.specs.Butterfly.{AtMost};
 ghost use Rattle.passes.specs.Halving.{Filled};
 ghost use Rattle.spectrum.specs.Product.{factor_most, settled_most};
-ghost use Rattle.row.specs.Powers.{RootPowers};
 ghost use Rattle.row.specs.Row.{RowSpectrum, RowRecovered};
 
 use passes::order::transpose;
 use passes::{forward, inverse};
 use spectrum::product::offset_residues;
 use spectrum::value::offset_of;
+use table::PowerTable;
 use twist::twist;
 
 pub mod table;
 mod twist;
 
 // The transform of 256 words of which the rows of 16 from `filled` on are 0.
-pub fn row_spectrum(words: &mut [u64], filled: usize, powers: &[u64; 256])
-    requires { (length words.old ≡ 256) × AtMost (2 * modulus 4) words.old × Filled filled 16 words.old
-        × RootPowers powers.now }
+pub fn row_spectrum(words: &mut [u64], filled: usize, powers: &PowerTable)
+    requires { (length words.old ≡ 256) × AtMost (2 * modulus 4) words.old × Filled filled 16 words.old }
     ensures row_spectrum { RowSpectrum (λ i. get_or words.old i 0) 0 words.new }
     ensures at_most { AtMost (factor_most 4) words.new }
 {
@@ -36,8 +35,8 @@ pub fn row_spectrum(words: &mut [u64], filled: usize, powers: &[u64; 256])
 }
 
 // From a transform, such as a sum of products of transforms that is brought down, back to the 256 words: each as a residue, with the offset added. The powers of the inverse of the root are those of the root with the exponents times 255.
-pub fn recover_row(words: &mut [u64], powers: &[u64; 256])
-    requires { (length words.old ≡ 256) × AtMost (settled_most 4) words.old × RootPowers powers.now }
+pub fn recover_row(words: &mut [u64], powers: &PowerTable)
+    requires { (length words.old ≡ 256) × AtMost (settled_most 4) words.old }
     ensures { RowRecovered words.old words.new }
 {
     inverse(words, 16, 16, 2, 16, 262148);

@@ -1,5 +1,7 @@
 // The 256 powers of the root 3^256, which is 282 modulo 65,537: each is the one before it times the root, and one computed test proves them all.
-ghost use Rattle.row.specs.Powers.{RootPowers};
+ghost use Rattle.std.specs.Prelude.{◌≡◌, ◌^◌, ◌<◌};
+ghost use Rattle.algebra.specs.Congruence.{Cong};
+ghost use Rattle.row.specs.Powers.{row_root, RootPowers};
 
 const POWERS: [u64; 256] = [
     1, 282, 13987, 12114, 8224, 25373, 11653, 9296, 65529, 63281, 19178, 34162, 65282, 59164,
@@ -24,8 +26,21 @@ const POWERS: [u64; 256] = [
 ];
 
 // The table as a value: a constant that is indexed where it stands would be made anew at every use.
-pub fn powers() -> [u64; 256]
-    ensures { RootPowers result }
-{
-    POWERS
+pub struct PowerTable {
+    powers: [u64; 256],
+    ghost root_powers: { RootPowers powers },
+}
+
+impl PowerTable {
+    pub fn new() -> PowerTable {
+        PowerTable { powers: POWERS }
+    }
+
+    // The root to the power `exponent`, as a residue.
+    pub(crate) fn power(&self, exponent: usize) -> u64
+        ensures value { Cong 65537 result (row_root ^ exponent) }
+        ensures below { result < 65537 }
+    {
+        self.powers[exponent % 256]
+    }
 }

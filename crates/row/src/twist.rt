@@ -3,9 +3,9 @@
 ghost use Rattle.std.specs.Prelude.{◌≡◌, ℕ, ◌<◌, ◌≤◌, length, get_or};
 ghost use Rattle.passes.specs.Butterfly.{AtMost};
 ghost use Rattle.spectrum.specs.Product.{factor_most};
-ghost use Rattle.row.specs.Powers.{RootPowers};
 ghost use Rattle.row.specs.Row.{frequency_of, Factors, Multiplied, Twisted};
 
+use crate::table::PowerTable;
 use passes::order::reverse;
 use spectrum::product::{product_4, settled_4};
 
@@ -18,15 +18,13 @@ fn frequency(r: usize) -> usize
 }
 
 // The powers of the root with the exponents 0, step, 2 step .. 15 step.
-fn factors_of(step: usize, powers: &[u64; 256]) -> [u64; 16]
-    requires { (step ≤ 4096) × RootPowers powers.now }
+fn factors_of(step: usize, powers: &PowerTable) -> [u64; 16]
+    requires { step ≤ 4096 }
     ensures { Factors step result }
 {
     let mut factors = [0u64; 16];
-    let mut j = 0;
-    while j < 16 {
-        factors[j] = powers[j * step % 256];
-        j += 1;
+    for (j, factor) in factors.iter_mut().enumerate() {
+        *factor = powers.power(j * step);
     }
     factors
 }
@@ -36,25 +34,22 @@ fn times(words: &mut [u64], factors: &[u64; 16])
     requires { (length words.old ≡ 16) × AtMost (factor_most 4) words.old × ((j : ℕ) → j < 16 → get_or factors.now j 0 ≤ factor_most 4) }
     ensures { Multiplied factors.now words.old words.new }
 {
-    let mut j = 0;
-    while j < words.len() {
-        words[j] = settled_4(product_4(words[j], factors[j]));
-        j += 1;
+    for (j, word) in words.iter_mut().enumerate() {
+        *word = settled_4(product_4(*word, factors[j]));
     }
 }
 
 // Word j of row r times the power of the root whose exponent is j times `unit` times the frequency of the row. The factors of a row are in an
-// array of their own before the loop that multiplies, so that it works on several words at once.
-pub(crate) fn twist(words: &mut [u64], unit: usize, powers: &[u64; 256])
-    requires { (length words.old ≡ 256) × (unit ≤ 255) × AtMost (factor_most 4) words.old × RootPowers powers.now }
+// array of their own before the loop that multiplies, so that it works on several words at once. The rows are cut out by their places: after
+// `chunks_exact_mut`, as it was tried, the proof knows nothing of the words.
+pub(crate) fn twist(words: &mut [u64], unit: usize, powers: &PowerTable)
+    requires { (length words.old ≡ 256) × (unit ≤ 255) × AtMost (factor_most 4) words.old }
     ensures { Twisted unit 16 words.old words.new }
 {
-    let mut r = 0;
-    while r < 16 {
+    for r in 0..16 {
         let at = 16 * r;
         let end = at + 16;
         let factors = factors_of(unit * frequency(r), powers);
         times(&mut words[at..end], &factors);
-        r += 1;
     }
 }

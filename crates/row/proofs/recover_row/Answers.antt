@@ -31,7 +31,7 @@ twist-requires c =
     let most : AtMost (16 * settled_most 4) ts =
     permuted_most (across 16) ys ts (16 * settled_most 4) (columns_length at) size (across_lt 16) c.transpose.ensures
     (rw passes_16 at c.inverse.ensures.at_most_2) in
-    (size, omega arith, λ i l. omega (arith, most i l), c.requires.2)
+    (size, omega arith, λ i l. omega (arith, most i l))
 
 pub inverse-requires-2 : goal.inverse-requires-2
 inverse-requires-2 c =

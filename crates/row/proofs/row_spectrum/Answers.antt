@@ -21,7 +21,7 @@ forward-requires c = record { bound = bound_2; grid = column_grid 131074 (omega 
 
 pub twist-requires : goal.twist-requires
 twist-requires c =
-    (c.forward.auto.words ∙ c.requires.0, omega arith, λ i l. omega (arith, (rw passes_16 at c.forward.ensures.at_most_2) i l), c.requires.3)
+    (c.forward.auto.words ∙ c.requires.0, omega arith, λ i l. omega (arith, (rw passes_16 at c.forward.ensures.at_most_2) i l))
 
 pub forward-requires-2 : goal.forward-requires-2
 forward-requires-2 c =

@@ -23,16 +23,16 @@ lent c = omega arith
 fits : (c : In-loop-r) →
     let loop = c.loop-r in
     16 * loop.r + (16 * loop.r + 16 - 16 * loop.r) ≤ length loop.words
-fits c = omega (arith, lent c.before, c.loop-r-test.true, c.loop-r.invariant.1)
+fits c = omega (arith, lent c.before, c.loop-r-test.true, c.loop-r.invariant.0)
 
 pub loop-r-init : goal.loop-r-init
-loop-r-init c = (omega arith, c.requires.0, twisting_none c.args.unit c.args.words.now)
+loop-r-init c = (c.requires.0, twisting_none c.args.unit c.args.words.now)
 
 pub overflow_mul-unit : goal.overflow_mul-unit
 overflow_mul-unit c = omega (arith, step c)
 
 pub factors_of-factors-requires : goal.factors_of-factors-requires
-factors_of-factors-requires c = (step c, c.requires.3)
+factors_of-factors-requires c = step c
 
 pub times-requires : goal.times-requires
 times-requires c =
@@ -41,7 +41,7 @@ times-requires c =
     let here = (goal.at.times-requires c).In-loop-r in
     let most = part_most (16 * loop.r) size loop.words (fits here) (factor_most 4)
     (λ i l. let p = 16 * loop.r + i in
-    omega (arith, loop.invariant.2.rest p (omega arith), c.requires.2 p (omega (arith, loop.invariant.1, c.requires.0, fits here)))) in
+    omega (arith, loop.invariant.1.rest p (omega arith), c.requires.2 p (omega (arith, loop.invariant.0, c.requires.0, fits here)))) in
     let long = part_length (16 * loop.r) size loop.words (fits here) ∙ lent (goal.at.times-requires c).At-loop-r in
     (long, most, λ j l. omega (arith, c.factors_of-factors.ensures.below j l))
 
@@ -55,14 +55,13 @@ loop-r-preserved c =
     let factors = rw c.frequency.ensures at c.factors_of-factors.ensures in
     let at = goal.at.loop-r-preserved c in
     let within = fits at.In-loop-r in (
-      omega (arith, c.loop-r-test.true),
-      same_len_mid (16 * loop.r) size loop.words us kept ∙ loop.invariant.1,
+      same_len_mid (16 * loop.r) size loop.words us kept ∙ loop.invariant.0,
       twisting_more a.unit loop.r size a.words.now loop.words us c.factors_of-factors.result (lent at.At-loop-r) within
-          (kept ∙ part_length (16 * loop.r) size loop.words within) loop.invariant.2 factors c.times.ensures,
+          (kept ∙ part_length (16 * loop.r) size loop.words within) loop.invariant.1 factors c.times.ensures,
     )
 
 pub returns : goal.returns
 returns c =
     let loop = c.loop-r in
     let all : loop.r ≡ 16 = omega (arith, c.loop-r-test.false, loop.invariant.0) in
-    rw all at loop.invariant.2.done
+    rw all at loop.invariant.1.done

@@ -1,13 +1,9 @@
 -- Row after row is multiplied by its powers of the root.
 use mathlib.Core.Path.{◌≡◌}
-use Prim.Native.Nat.{◌-◌, ◌≤◌}
 use lib.ListN.{length}
 use Rattle.row.proofs.TwistedRows.{Twisting}
 use Rattle.row.proofs.twist.twist.Given as goal
 
 abbrev pub invariant-loop-r : goal.invariant-loop-r
 invariant-loop-r l =
-    (l.r ≤ 16) × (length l.words ≡ 256) × Twisting l.unit l.r l.initial.words l.words
-
-abbrev pub decreases-loop-r : goal.decreases-loop-r
-decreases-loop-r l = 16 - l.r
+    (length l.words ≡ 256) × Twisting l.unit l.r l.initial.words l.words
