@@ -1,6 +1,6 @@
 -- Both direct sums as one form: the sum over the K by K weights of the C planes that reach an output channel, each weight times the value
 -- that it meets. In CONV that value is one of the map; in TCONV it is one of the map with S − 1 zeros between its values.
-use Rattle.std.specs.Prelude.{◌≡◌, refl, Bool, true, false, List, ℕ, ◌+◌, ◌*◌, ◌-◌, ◌<◌, ℤ}
+use Rattle.std.specs.Prelude.{◌≡◌, refl, Bool, true, false, List, ℕ, ◌+◌, ◌*◌, ◌<◌, ℤ}
 use Rattle.algebra.specs.Planes.{cell}
 use Rattle.algebra.specs.SumLaws.{integers, sum_cong}
 use Rattle.layer.specs.Windows.{weighed, spaced, met_by}

@@ -6,6 +6,7 @@ pub mod Direct
 pub mod Windows
 pub mod Planned
 -- laws
+pub mod KindLaws
 pub mod ShapeLaws
 pub mod FullLaws
 pub mod PlannedLaws

@@ -7,6 +7,7 @@ use borrow.Author.Tests.{leb-true, ltb-true, eq-eqb, ne_eqb}
 use Rattle.algebra.specs.EveryLaws.{both_true}
 use Rattle.layer.specs.declared.shape.Layer.{Layer}
 use Rattle.layer.specs.Shape.{is_conv, conv_size, tconv_size, full_size}
+use Rattle.layer.specs.KindLaws.{tconv_number}
 use Rattle.layer.specs.Planned.{added_fits, crop_fits, InRange, ExtentInRange, Outputs}
 
 pub height_extent : (l : Layer) → InRange l → ExtentInRange l l.height l.below
@@ -33,6 +34,9 @@ module _ (l : Layer) (extent added : ℕ) where
   unfolding tconv_size
   tconv_room o e =
       let h = leb-true 1 (tconv_size extent l.side l.stride l.padding added) (rw (ne_eqb l.kind 0 e) at o.some) in omega arith
+
+  -- by these `grind` finds that no size of TCONV goes below 0
+  pub ruleset tconv_output = (tconv_room, tconv_number)
 
   pub strides_high : ExtentInRange l extent added → (extent - 1) * l.stride ≤ 2044
   strides_high x = mul-le-mul {n₂ = 511} {m₂ = 4} (omega (arith, x.high)) x.shape.stride_high

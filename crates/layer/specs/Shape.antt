@@ -3,10 +3,16 @@ use Rattle.std.specs.Prelude.{Bool, cond, ℕ, ◌+◌, ◌*◌, ◌-◌, ◌/�
 use Rattle.base.specs.Number.{ceiling_div}
 use Rattle.fermat.specs.Field.{transform_length}
 use Rattle.layer.specs.declared.shape.Layer.{Layer}
+use Rattle.layer.specs.declared.shape.Kind.{Kind}
+use Rattle.layer.specs.declared.shape.Kind.TheVariants.{Conv, Tconv}
 
 -- kind 0 is CONV, 1 is TCONV
 abbrev pub is_conv : Layer → Bool
 is_conv l = eqb l.kind 0
+
+-- by that test: every number but 0 counts as TCONV
+abbrev pub kind_of : Layer → Kind
+kind_of l = cond (is_conv l) Conv Tconv
 
 -- ---- counts
 

@@ -1,6 +1,6 @@
 -- Laws of strips: every output place lies in one strip below the total, which its row and its place along the row tell, and every strip below the
 -- total holds an output place; and bounds of a layer's strip figures. They rest on the laws of parts along a line and of tiles.
-use Rattle.std.specs.Prelude.{◌≡◌, ℕ, ◌+◌, ◌*◌, ◌-◌, ◌/◌, ◌%◌, ◌<◌, ◌≤◌}
+use Rattle.std.specs.Prelude.{◌≡◌, ℕ, ◌+◌, ◌*◌, ◌/◌, ◌%◌, ◌<◌, ◌≤◌}
 use Rattle.std.proofs.Math.Path.{sym, ap}
 use Rattle.std.proofs.Common.{◌∙◌, div-lt_iff_lt-mul, mod-lt, arith}
 use Rattle.std.proofs.Math.Nat.{div-add-mod', mul-le-mul}

@@ -1,6 +1,6 @@
 -- Laws of tiles: every output place lies in one tile below the total, which its square tells, and every tile below the total holds an
 -- output place. They rest on the definitions of Shape and on the sizes of a planned layer.
-use Rattle.std.specs.Prelude.{◌≡◌, ℕ, zero, suc, ◌+◌, ◌*◌, ◌-◌, ◌/◌, ◌%◌, ◌<◌, ◌≤◌}
+use Rattle.std.specs.Prelude.{◌≡◌, ℕ, zero, suc, ◌+◌, ◌*◌, ◌/◌, ◌%◌, ◌<◌, ◌≤◌}
 use Rattle.std.proofs.Math.Path.{sym}
 use Rattle.std.proofs.Common.{ap, ap₂, ◌∙◌, div-lt_iff_lt-mul, div-add-mod', mod-lt, arith}
 use Rattle.std.proofs.Math.Arith.{digits_lt, digits_div, digits_mod}

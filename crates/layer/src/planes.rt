@@ -2,7 +2,7 @@
 ghost use Rattle.std.specs.Prelude.{◌≡◌, ℕ, ◌+◌, ◌*◌, ◌≤◌};
 ghost use Rattle.layer.specs.Direct.{plane_of};
 
-use crate::shape::Layer;
+use crate::shape::{Kind, Layer};
 
 // The kernel's planes that reach an output channel, one for each map channel.
 #[derive(Clone, Copy)]
@@ -16,15 +16,14 @@ pub fn planes_to(layer: Layer, m: usize) -> Planes
     requires { (m ≤ 64) × (layer.inputs ≤ 64) }
     ensures { (c : ℕ) → result.first + c * result.step ≡ plane_of layer m c }
 {
-    if layer.kind == 0 {
-        Planes {
+    match layer.kind_of() {
+        Kind::Conv => Planes {
             first: m * layer.inputs,
             step: 1,
-        }
-    } else {
-        Planes {
+        },
+        Kind::Tconv => Planes {
             first: m,
             step: layer.outputs,
-        }
+        },
     }
 }

@@ -1,4 +1,13 @@
-// The figures of a layer and of its plan.
+// The figures of a layer and of its plan, and the kind that its first figure means.
+ghost use Rattle.std.specs.Prelude.{◌≡◌};
+ghost use Rattle.layer.specs.Shape.{kind_of};
+
+// What a layer computes.
+#[derive(Clone, Copy, Debug, PartialEq, Eq)]
+pub enum Kind {
+    Conv,
+    Tconv,
+}
 
 // A layer. The comments give the letters of the request.
 #[derive(Clone, Copy)]
@@ -19,6 +28,19 @@ pub struct Layer {
     pub columns: usize, // w, columns kept
     pub below: usize, // rows added at the bottom of a full TCONV output
     pub beside: usize, // columns added at its right
+}
+
+impl Layer {
+    // Every number but 0 counts as TCONV; rule 1 refuses all but 0 and 1.
+    pub fn kind_of(self) -> Kind
+        ensures { result ≡ kind_of self }
+    {
+        if self.kind == 0 {
+            Kind::Conv
+        } else {
+            Kind::Tconv
+        }
+    }
 }
 
 // What the planner answers: the number of the first rule broken, or 0 and the figures of the layer.

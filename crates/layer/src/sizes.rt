@@ -4,8 +4,7 @@ ghost use Rattle.base.specs.Number.{ceiling_div};
 ghost use Rattle.layer.specs.Planned.{InRange, Outputs, Planned, Wanted};
 ghost use Rattle.layer.specs.Shape.{map_count, kernel_count, output_count, full_size, scratch_words, tile_side, grid_step, span, tile_total};
 
-use crate::shape::Layer;
-use base::number::ceiling_div;
+use crate::shape::{Kind, Layer};
 use fermat::field;
 
 // Map values: C.H.W.
@@ -33,14 +32,14 @@ pub fn output_count(layer: Layer) -> usize
 }
 
 // E of a map's height and the rows added, F of its width and the columns added.
+#[tactic(auto, using(crate::specs::PlannedLaws::tconv_output), unfolding(crate::specs::Shape::conv_size, crate::specs::Shape::tconv_size))]
 pub fn full_size(layer: Layer, extent: usize, added: usize) -> usize
     requires { Outputs layer extent added }
     ensures { result ≡ full_size layer extent added }
 {
-    if layer.kind == 0 {
-        (extent + 2 * layer.padding - layer.side) / layer.stride + 1
-    } else {
-        (extent - 1) * layer.stride + layer.side + added - 2 * layer.padding
+    match layer.kind_of() {
+        Kind::Conv => (extent + 2 * layer.padding - layer.side) / layer.stride + 1,
+        Kind::Tconv => (extent - 1) * layer.stride + layer.side + added - 2 * layer.padding,
     }
 }
 
@@ -65,7 +64,10 @@ pub fn tile_side(layer: Layer) -> usize
 pub fn grid_step(layer: Layer) -> usize
     ensures { result ≡ grid_step layer }
 {
-    if layer.kind == 0 { layer.stride } else { 1 }
+    match layer.kind_of() {
+        Kind::Conv => layer.stride,
+        Kind::Tconv => 1,
+    }
 }
 
 // R of the rows kept, Q of the columns kept.
@@ -73,19 +75,19 @@ fn span_of(layer: Layer, count: usize) -> usize
     requires { Wanted layer count }
     ensures { result ≡ span layer count }
 {
-    if layer.kind == 0 {
-        (count - 1) * layer.stride + 1
-    } else {
-        count
+    match layer.kind_of() {
+        Kind::Conv => (count - 1) * layer.stride + 1,
+        Kind::Tconv => count,
     }
 }
 
 // Parts of that length along the rows kept, or along the columns kept.
+#[tactic(auto, using(base::specs::NumberLaws::div_ceil_is))]
 pub fn parts_along(layer: Layer, count: usize, length: usize) -> usize
     requires { Wanted layer count × (1 ≤ length) × (length ≤ 256) }
     ensures { result ≡ ceiling_div (span layer count) length }
 {
-    ceiling_div(span_of(layer, count), length)
+    span_of(layer, count).div_ceil(length)
 }
 
 // Tile rows of the rows kept, tile columns of the columns kept.
