@@ -8,9 +8,8 @@ use native.Mathlib.Omega.{arith}
 use lib.ListN.{length, get_or}
 use borrow.Rule.Slice.PartMut.{mid_of, put_mid, same_len_mid}
 use Rattle.algebra.specs.PlacesLaws.{part_ends, get_d_put_mid, get_d_put_mid_before, get_d_put_mid_after}
-use Rattle.passes.specs.Butterfly.{Staged}
+use Rattle.passes.specs.Butterfly.{Step, Staged}
 use Rattle.passes.specs.Passes.{EachBlock, StagePair, Passed}
-use Rattle.passes.specs.declared.butterfly.Step.{Step}
 use Rattle.passes.specs.PartLaws.{part_length, part-word}
 
 -- a block that begins before the end ends by it

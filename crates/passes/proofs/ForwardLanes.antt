@@ -8,11 +8,10 @@ use native.Mathlib.Omega.{arith}
 use lib.ListN.{length, get_or}
 use Rattle.algebra.specs.Congruence.{Cong}
 use Rattle.algebra.specs.CongruenceLaws.{c_via, c_multiple}
-use Rattle.passes.specs.Butterfly.{Parted}
+use Rattle.passes.specs.Butterfly.{Forward, Parted}
 use Rattle.passes.specs.Halving.{word, Filled}
 use Rattle.passes.specs.Passes.{EachBlock, Passed}
 use Rattle.passes.specs.PassLaws.{pass_root, first_half, second_half, ForwardAfter, forward_none, forward_more}
-use Rattle.passes.specs.declared.butterfly.Step.TheVariants.{Forward}
 use Rattle.passes.proofs.Levels.{Level}
 use Rattle.passes.proofs.PassRows.{Empty, empty_after, rows_made}
 

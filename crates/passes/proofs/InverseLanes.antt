@@ -10,9 +10,9 @@ use Rattle.algebra.specs.Congruence.{Cong}
 use Rattle.algebra.specs.CongruenceLaws.{c_refl, c_sym, ◌⨟◌, c_via, c_add, c_mul, c_multiple}
 use Rattle.fermat.specs.RootLaws.{inverse_pow}
 use Rattle.passes.specs.Halving.{word}
+use Rattle.passes.specs.Butterfly.{Inverse}
 use Rattle.passes.specs.Passes.{Passed}
 use Rattle.passes.specs.PassLaws.{pass_root, InverseAfter, inverse_none, inverse_more}
-use Rattle.passes.specs.declared.butterfly.Step.TheVariants.{Inverse}
 use Rattle.passes.proofs.Levels.{Level}
 use Rattle.passes.proofs.PassRows.{Empty, rows_made}
 

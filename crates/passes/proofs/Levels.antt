@@ -3,12 +3,9 @@ use mathlib.Core.Path.{◌≡◌, sym, ap, ◌∙◌}
 use Prim.Native.Nat.{ℕ, suc, ◌+◌, ◌-◌, ◌*◌, ◌/◌, ◌^◌, ◌<◌, ◌≤◌}
 use native.Mathlib.Nat.{two-pow-succ, mul-le-mul_left, mul-le-mul_right, dvd-mul_left, dvd-mul_right, pos_of_dvd_of_pos}
 use native.Mathlib.Omega.{arith}
-use lib.Pow.{pow_pos, pow_mono, pow-add, shl-shr}
+use lib.Pow.{pow_mono, pow-add, shl-shr}
 use Rattle.passes.specs.Butterfly.{Bound, StageSizes}
-use Rattle.passes.specs.Passes.{passes, level_of, Grid}
-use Rattle.passes.specs.declared.Direction.{Direction}
-use Rattle.passes.specs.declared.Direction.TheVariants.{Forward, Inverse}
-use Rattle.passes.specs.WordLaws.{bound_times}
+use Rattle.passes.specs.Passes.{Direction, Forward, Inverse, passes, level_of, Grid}
 
 pub level_lt : (direction : Direction) (p l : ℕ) → p < l → level_of direction p (l - 1 - p) < l
 level_lt Forward p l h = h
@@ -54,15 +51,18 @@ module _ {s n lanes unit b c : ℕ} (bound : Bound b c) (grid : Grid s n lanes u
       twice : (u g h : ℕ) → 2 * (u * g * h) ≡ u * (g * (2 * h))
       twice u g h = omega arith
 
-  pub power_le : (p : ℕ) → p < passes n → 2 ^ p ≤ n
+  pub power_le : (p : ℕ) → p ≤ passes n → 2 ^ p ≤ n
   power_le p l = omega (arith, grid.power, pow_mono {i = p} {j = passes n} (omega arith))
 
-  -- the unit of a level, and the bound after p passes
+  -- the unit of a level, and that the bound after p passes may be doubled once more
   pub unit_most : (i : ℕ) → i < passes n → unit * 2 ^ i ≤ 64
-  unit_most i l = omega (arith, mul-le-mul_left unit (power_le i l), grid.period, bound.halved.bits_high)
+  unit_most i l = omega (arith, mul-le-mul_left unit (power_le i (omega arith)), grid.period, bound.halved.bits_high)
 
-  pub doubled_bound : (p : ℕ) → p < passes n → Bound b (c * 2 ^ p)
-  doubled_bound p l = bound_times bound (2 ^ p) (pow_pos p) (omega (arith, mul-le-mul_left c (power_le p l), grid.room))
+  pub room_left : (p : ℕ) → p < passes n → c * 2 ^ p < 4611686018427387904
+  room_left p l =
+      let most : c * 2 ^ suc p ≤ c * n = mul-le-mul_left c (power_le (suc p) (omega arith)) in
+      let twice : c * 2 ^ suc p ≡ 2 * (c * 2 ^ p) = rw (two-pow-succ p) (omega arith) in
+      omega (arith, most, twice, grid.room)
 
 -- the sizes of a pass's stages, over some of the rows of a half
 pub sized : {s lanes unit b g h : ℕ} → Level s lanes unit b g h → (rows : ℕ) → 0 < rows → rows ≤ h

@@ -9,11 +9,9 @@ use lib.Arith.{digits_div}
 use lib.ListN.{length, get_or}
 use Rattle.algebra.specs.PlacesLaws.{part_ends}
 use Rattle.algebra.specs.CongruenceLaws.{c_eq}
-use Rattle.passes.specs.Butterfly.{StepMakes, AtMost}
+use Rattle.passes.specs.Butterfly.{Step, Plain, Forward, Inverse, StepMakes, AtMost}
 use Rattle.passes.specs.Halving.{word}
 use Rattle.passes.specs.Passes.{EachBlock, StagePair, Passed}
-use Rattle.passes.specs.declared.butterfly.Step.{Step}
-use Rattle.passes.specs.declared.butterfly.Step.TheVariants.{Plain, Forward, Inverse}
 
 -- ---- butterflies of every step
 

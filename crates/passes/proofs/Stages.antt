@@ -10,9 +10,7 @@ use lib.Arith.{digits_div}
 use lib.ListN.{length}
 use Rattle.algebra.specs.Places.{Run}
 use Rattle.algebra.specs.PlacesLaws.{part_ends}
-use Rattle.passes.specs.Butterfly.{Relation, StepMakes, TakesPower, Paired, PairsAtMost, AtMost, Staged, Joined}
-use Rattle.passes.specs.declared.butterfly.Step.{Step}
-use Rattle.passes.specs.declared.butterfly.Step.TheVariants.{Plain, Forward, Inverse}
+use Rattle.passes.specs.Butterfly.{Step, Plain, Forward, Inverse, Relation, StepMakes, TakesPower, Paired, PairsAtMost, AtMost, Staged, Joined}
 use Rattle.passes.specs.WordLaws.{plain_inverse}
 use Rattle.passes.proofs.Pairs.{paired_nothing, paired_again}
 

@@ -3,8 +3,13 @@
 use Rattle.std.specs.Prelude.{◌≡◌, List, ℕ, ◌+◌, ◌-◌, ◌*◌, ◌/◌, ◌^◌, ◌<◌, ◌≤◌, get_or, length}
 use Rattle.algebra.specs.Congruence.{Cong}
 use Rattle.algebra.specs.Places.{Run}
-use Rattle.passes.specs.declared.butterfly.Step.{Step}
-use Rattle.passes.specs.declared.butterfly.Step.TheVariants.{Plain, Forward, Inverse}
+
+-- the kinds of butterflies: of u and v and a power p of 2, the plain one makes u + v and u − v, the forward one u + v and (u − v) p, the inverse
+-- one u + v / p and u − v / p
+pub data Step : Type 0 where
+  Plain : Step
+  Forward : Step
+  Inverse : Step
 
 -- c is a multiple of the modulus 2 ^ b + 1, above 0
 pub record Multiple (b c : ℕ) : Type 0 where

@@ -5,6 +5,7 @@ pub mod Halving
 pub mod Passes
 -- laws
 pub mod OrderLaws
+pub mod BoundLaws
 pub mod WordLaws
 pub mod PartLaws
 pub mod PassLaws

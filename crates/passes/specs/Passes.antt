@@ -3,11 +3,13 @@
 use Rattle.std.specs.Prelude.{◌≡◌, List, ℕ, ◌+◌, ◌-◌, ◌*◌, ◌/◌, ◌^◌, ◌<◌, ◌≤◌, length, get_or}
 use Rattle.std.specs.Int.Count.{count_trailing_zeros}
 use Rattle.algebra.specs.Places.{Run}
-use Rattle.passes.specs.Butterfly.{Relation, StepMakes, Pairing}
+use Rattle.passes.specs.Butterfly.{Step, Relation, StepMakes, Pairing}
 use Rattle.passes.specs.Halving as Lanes
-use Rattle.passes.specs.declared.butterfly.Step.{Step}
-use Rattle.passes.specs.declared.Direction.{Direction}
-use Rattle.passes.specs.declared.Direction.TheVariants.{Forward, Inverse}
+
+-- which way a transform goes
+pub data Direction : Type 0 where
+  Forward : Direction
+  Inverse : Direction
 
 -- the passes of a transform of length n: as many as n has trailing zero bits
 abbrev pub passes : ℕ → ℕ

@@ -2,16 +2,9 @@
 // reduces nothing, so no branch depends on a word and a loop over lanes works on several of them at once.
 ghost use Rattle.std.specs.Prelude.{◌≡◌, ◌+◌, ◌*◌, ◌<◌, ◌≤◌, length};
 ghost use Rattle.algebra.specs.Places.{Run};
-ghost use Rattle.passes.specs.Butterfly.{Multiple, Bound, TimesPower, StepMakes, TakesPower, Paired, PairsAtMost, AtMost, Staged, StageSizes};
+ghost use Rattle.passes.specs.Butterfly.{Step, Multiple, TimesPower, StepMakes, TakesPower, Paired, PairsAtMost, AtMost, Staged, StageSizes};
 
-// What a butterfly makes of two words u and v, with a power p of 2:
-// Plain u + v and u - v, Forward u + v and (u - v) p, Inverse u + v / p and u - v / p.
-#[derive(Clone, Copy)]
-pub enum Step {
-    Plain,
-    Forward,
-    Inverse,
-}
+use crate::bounded::Residues;
 
 #[derive(Clone, Copy)]
 pub struct Pair {
@@ -31,51 +24,79 @@ fn times_power(d: u64, t: u32, bits: u32, margin: u64) -> u64
     ((d % p) << t) + margin - (d >> s)
 }
 
-fn butterfly(step: Step, u: u64, v: u64, t: u32, bits: u32, bound: u64) -> Pair
-    requires bound { Bound bits bound }
-    requires takes_power { TakesPower step bits t × (u ≤ bound) × (v ≤ bound) }
-    ensures { StepMakes step bits bound t u v result.low result.high }
-{
-    match step {
-        Step::Plain => Pair {
+// A kind of butterflies: what becomes of two words u and v, with a power p of 2.
+pub trait Butterfly {
+    ghost step: { Step };
+
+    // With the power 2^t.
+    fn pair(u: u64, v: u64, t: u32, residues: Residues) -> Pair
+        requires { TakesPower step residues.bits t × (u ≤ residues.bound) × (v ≤ residues.bound) }
+        ensures { StepMakes step residues.bits residues.bound t u v result.low result.high };
+}
+
+// u + v and u - v.
+pub struct Plain;
+
+impl Butterfly for Plain {
+    ghost step = { Step.Plain };
+
+    fn pair(u: u64, v: u64, _t: u32, residues: Residues) -> Pair {
+        Pair {
             low: u + v,
-            high: u + bound - v,
-        },
-        Step::Forward => Pair {
+            high: u + residues.bound - v,
+        }
+    }
+}
+
+// u + v and (u - v) p.
+pub struct Forward;
+
+impl Butterfly for Forward {
+    ghost step = { Step.Forward };
+
+    fn pair(u: u64, v: u64, t: u32, residues: Residues) -> Pair {
+        let Residues { bits, bound } = residues;
+        Pair {
             low: u + v,
             high: times_power(u + bound - v, t, bits, bound),
-        },
-        Step::Inverse => {
-            let w = times_power(v, bits - t, bits, bound / 2);
-            Pair {
-                low: u + bound - w,
-                high: u + w,
-            }
+        }
+    }
+}
+
+// u + v / p and u - v / p.
+pub struct Inverse;
+
+impl Butterfly for Inverse {
+    ghost step = { Step.Inverse };
+
+    fn pair(u: u64, v: u64, t: u32, residues: Residues) -> Pair {
+        let Residues { bits, bound } = residues;
+        let w = times_power(v, bits - t, bits, bound / 2);
+        Pair {
+            low: u + bound - w,
+            high: u + w,
         }
     }
 }
 
 // Butterflies between the `lanes` words from `at` on and those half a list further.
-fn butterflies(
+fn butterflies<B: Butterfly>(
     words: &mut [u64],
     at: usize,
     half: usize,
     lanes: usize,
-    step: Step,
     t: u32,
-    bits: u32,
-    bound: u64,
+    residues: Residues,
 )
-    requires bound { Bound bits bound }
-    requires words_len { (length words.old ≡ 2 * half) × (at + lanes ≤ half) × TakesPower step bits t }
-    requires pairs_at_most { PairsAtMost bound (Run at lanes) half words.old }
-    ensures { Paired (λ _. StepMakes step bits bound t) (Run at lanes) half words.old words.new }
+    requires words_len { (length words.old ≡ 2 * half) × (at + lanes ≤ half) × TakesPower B.step residues.bits t }
+    requires pairs_at_most { PairsAtMost residues.bound (Run at lanes) half words.old }
+    ensures { Paired (λ _. StepMakes B.step residues.bits residues.bound t) (Run at lanes) half words.old words.new }
 {
     let mut k = 0;
     while k < lanes {
         let p = at + k;
         let q = half + p;
-        let pair = butterfly(step, words[p], words[q], t, bits, bound);
+        let pair = B::pair(words[p], words[q], t, residues);
         words[p] = pair.low;
         words[q] = pair.high;
         k += 1;
@@ -83,29 +104,26 @@ fn butterflies(
 }
 
 // One stage: butterflies between the first rows of the two halves, row r with the power 2^(unit r). Row 0, of power 1, comes last.
-pub(crate) fn stage(
+pub(crate) fn stage<B: Butterfly>(
     words: &mut [u64],
     rows: usize,
     half: usize,
     lanes: usize,
-    step: Step,
     unit: u32,
-    bits: u32,
-    bound: u64,
+    residues: Residues,
 )
-    requires bound { Bound bits bound }
-    requires stage_sizes { StageSizes (length words.old) rows lanes half unit bits }
-    requires at_most { AtMost bound words.old }
-    ensures { Staged step bits bound unit rows lanes half words.old words.new }
+    requires stage_sizes { StageSizes (length words.old) rows lanes half unit residues.bits }
+    requires at_most { AtMost residues.bound words.old }
+    ensures { Staged B.step residues.bits residues.bound unit rows lanes half words.old words.new }
 {
     let mut r = 1;
     let mut at = lanes;
     let mut t = unit;
     while r < rows {
-        butterflies(words, at, half, lanes, step, t, bits, bound);
+        butterflies::<B>(words, at, half, lanes, t, residues);
         r += 1;
         at += lanes;
         t += unit;
     }
-    butterflies(words, 0, half, lanes, Step::Plain, 0, bits, bound);
+    butterflies::<Plain>(words, 0, half, lanes, 0, residues);
 }

@@ -7,9 +7,9 @@ use Rattle.passes.specs.Butterfly.{StepMakes, Paired}
 use Rattle.passes.proofs.butterfly.butterflies.Given as goal
 
 abbrev pub invariant-loop-k : goal.invariant-loop-k
-invariant-loop-k l =
+invariant-loop-k g l =
     (l.k ≤ l.lanes) × (length l.words ≡ length l.initial.words)
-    × Paired (λ _. StepMakes l.step l.bits l.bound l.t) (Run l.at l.k) l.half l.initial.words l.words
+    × Paired (λ _. StepMakes g.B.Butterfly.step l.residues.bits l.residues.bound l.t) (Run l.at l.k) l.half l.initial.words l.words
 
 abbrev pub decreases-loop-k : goal.decreases-loop-k
-decreases-loop-k l = l.lanes - l.k
+decreases-loop-k g l = l.lanes - l.k

@@ -6,9 +6,9 @@ use Rattle.passes.proofs.Stages.{Rows}
 use Rattle.passes.proofs.butterfly.stage.Given as goal
 
 abbrev pub invariant-loop-r : goal.invariant-loop-r
-invariant-loop-r l =
+invariant-loop-r g l =
     (0 < l.r) × (l.r ≤ l.rows) × (l.at ≡ l.r * l.lanes) × (l.t ≡ l.unit * l.r)
-    × (length l.words ≡ length l.initial.words) × Rows l.step l.bits l.bound l.unit l.half l.lanes l.r l.initial.words l.words
+    × (length l.words ≡ length l.initial.words) × Rows g.B.Butterfly.step l.residues.bits l.residues.bound l.unit l.half l.lanes l.r l.initial.words l.words
 
 abbrev pub decreases-loop-r : goal.decreases-loop-r
-decreases-loop-r l = l.rows - l.r
+decreases-loop-r g l = l.rows - l.r
