@@ -11,7 +11,7 @@ use Rattle.layer.specs.declared.shape.Layer.{Layer}
 use Rattle.layer.specs.Shape.{grid_step, span, tile_rows, tile_columns, tile_row, tile_column}
 use Rattle.layer.specs.TileSizeLaws.{length_low}
 use Rattle.layer.specs.PartLaws.{span_is, step_range}
-use Rattle.layer.specs.TileLaws.{planned_tiled, line_some}
+use Rattle.layer.specs.TileLaws.{tile_rows_some, tile_columns_some}
 
 module _ (l : Layer) (r : InRange l) where
   pub modulus_low : 65537 ≤ modulus l.field
@@ -40,10 +40,10 @@ module _ (l : Layer) (r : InRange l) where
 -- the row and the column of tiles that a tile stands in
 module _ (l : Layer) (planned : Planned l) (t : ℕ) where
   pub tile_row_lt : tile_row l t < tile_rows l
-  tile_row_lt = mod-lt _ (line_some l (planned_tiled l planned) l.rows planned.rows_low)
+  tile_row_lt = mod-lt _ (tile_rows_some l planned)
 
   pub tile_column_lt : tile_column l t < tile_columns l
-  tile_column_lt = mod-lt t (line_some l (planned_tiled l planned) l.columns planned.columns_low)
+  tile_column_lt = mod-lt t (tile_columns_some l planned)
 
 -- the grid place of a part of any length that begins before the last of `count` outputs
 pub start_high : (l : Layer) (length count first index : ℕ) → InRange l → 0 < length → 1 ≤ count → first + count ≤ 2058

@@ -127,6 +127,13 @@ line_held l tiled count t some h = part_held l (tile_side l) count t tiled.step 
 pub line_some : (l : Layer) → Tiled l → (count : ℕ) → 0 < count → 0 < ceiling_div (span l count) (tile_side l)
 line_some l tiled count some = part_some l (tile_side l) count (side_some l tiled) some
 
+module _ (l : Layer) (planned : Planned l) where
+  pub tile_rows_some : 0 < tile_rows l
+  tile_rows_some = line_some l (planned_tiled l planned) l.rows planned.rows_low
+
+  pub tile_columns_some : 0 < tile_columns l
+  tile_columns_some = line_some l (planned_tiled l planned) l.columns planned.columns_low
+
 pub tile_channel_lt : (l : Layer) → Tiled l → (t : ℕ) → t < tile_total l → tile_channel l t < l.outputs
 unfolding tile_total
 tile_channel_lt l tiled t h =

@@ -7,7 +7,7 @@ use Rattle.fermat.specs.Field.{transform_length}
 use Rattle.layer.specs.PlannedLaws.{cond_le}
 use Rattle.layer.specs.Planned.{InRange, Planned, Wanted}
 use Rattle.layer.specs.declared.shape.Layer.{Layer}
-use Rattle.layer.specs.Shape.{is_conv, tile_side, span, tile_total}
+use Rattle.layer.specs.Shape.{is_conv, tile_side, span, tile_rows, tile_columns, tile_total}
 
 module _ (l : Layer) (r : InRange l) where
   pub length_low : 32 ≤ transform_length l.field
@@ -45,7 +45,15 @@ module _ (l : Layer) (count : ℕ) (w : Wanted l count) where
   across_high = omega (arith, div-le_self (span l count + tile_side l - 1) (tile_side l), span_high, tile_side_high l w.shape)
 
 -- the tiles of a layer are few
-pub total_high : (l : Layer) → Planned l → tile_total l ≤ 64 * 8292 * 8292
-unfolding tile_total
-total_high l plan =
-    mul-le-mul (mul-le-mul plan.shape.outputs_high (across_high _ _ (rows_wanted l plan))) (across_high _ _ (columns_wanted l plan))
+module _ (l : Layer) (plan : Planned l) where
+  pub tile_rows_high : tile_rows l ≤ 8292
+  tile_rows_high = across_high _ _ (rows_wanted l plan)
+
+  pub tile_columns_high : tile_columns l ≤ 8292
+  tile_columns_high = across_high _ _ (columns_wanted l plan)
+
+  pub ruleset tile_lines_high = (tile_rows_high, tile_columns_high)
+
+  pub total_high : tile_total l ≤ 64 * 8292 * 8292
+  unfolding tile_total
+  total_high = mul-le-mul (mul-le-mul plan.shape.outputs_high tile_rows_high) tile_columns_high

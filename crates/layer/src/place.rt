@@ -13,6 +13,7 @@ pub struct Place {
     pub column: usize, // of tiles, or of strips
 }
 
+#[tactic(auto, using(crate::specs::TileLaws::tile_rows_some, crate::specs::TileLaws::tile_columns_some))]
 pub fn place_of(layer: Layer, tile: usize) -> Place
     requires { Planned layer × (tile < tile_total layer) }
     ensures { (result.channel ≡ tile_channel layer tile) × (result.row ≡ tile_row layer tile) × (result.column ≡ tile_column layer tile) }

@@ -53,6 +53,7 @@ pub fn scratch_words(layer: Layer) -> usize
 }
 
 // L.
+#[tactic(auto, using(crate::specs::TileSizeLaws::length_low))]
 pub fn tile_side(layer: Layer) -> usize
     requires { InRange layer }
     ensures { result ≡ tile_side layer }
@@ -99,6 +100,7 @@ pub fn tiles_along(layer: Layer, count: usize) -> usize
 }
 
 // M × ⌈R/L⌉ × ⌈Q/L⌉.
+#[tactic(auto, using(crate::specs::TileSizeLaws::tile_lines_high), unfolding(crate::specs::Shape::tile_total))]
 pub fn tile_total(layer: Layer) -> usize
     requires { Planned layer }
     ensures { result ≡ tile_total layer }

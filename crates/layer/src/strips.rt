@@ -24,6 +24,7 @@ fn strip_columns(layer: Layer) -> usize
 }
 
 // M × h × ⌈Q/L⌉.
+#[tactic(auto, using(crate::specs::StripLaws::strip_columns_high), unfolding(crate::specs::Strip::strip_total))]
 pub fn strip_total(layer: Layer) -> usize
     requires { Planned layer }
     ensures { result ≡ strip_total layer }
@@ -32,6 +33,7 @@ pub fn strip_total(layer: Layer) -> usize
 }
 
 // The output channel and the output row of a strip, and its column among the strips of that row.
+#[tactic(auto, using(crate::specs::StripLaws::strip_columns_some))]
 pub fn strip_place(layer: Layer, strip: usize) -> Place
     requires { Planned layer × (strip < strip_total layer) }
     ensures { (result.channel ≡ strip_channel layer strip) × (result.row ≡ strip_row layer strip) × (result.column ≡ strip_column layer strip) }
