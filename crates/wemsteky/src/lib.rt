@@ -17,6 +17,7 @@ ghost use Rattle.worst.specs.Answer.{worst_code, worst_left};
 ghost use Rattle.wemsteky.specs.Figures.{plan_figures, offender_figures, progress_figures, preview_figures, Reported, SequenceReported};
 
 use checks::calls::Checked;
+use checks::method::Method;
 use checks::planner;
 use engine::job::{Job, Progress};
 use engine::preview::Preview;
@@ -38,7 +39,7 @@ pub extern "C" fn wemsteky_plan(layer: &[usize; 16], figures: &mut [usize; 4]) -
     ensures value { result ≡ (plan_of tile_engine (layer_of layer.now)).code }
     ensures figures_after { figures.new ≡ plan_figures (plan_of tile_engine (layer_of layer.now)) }
 {
-    show_plan(planner::plan(layer_of(layer)), figures)
+    show_plan(planner::plan_by(Method::Tiles, layer_of(layer)), figures)
 }
 
 // By strips.
@@ -47,7 +48,7 @@ pub extern "C" fn wemsteky_strip_plan(layer: &[usize; 16], figures: &mut [usize;
     ensures value { result ≡ (plan_of strip_engine (layer_of layer.now)).code }
     ensures figures_after { figures.new ≡ plan_figures (plan_of strip_engine (layer_of layer.now)) }
 {
-    show_plan(planner::plan_strips(layer_of(layer)), figures)
+    show_plan(planner::plan_by(Method::Strips, layer_of(layer)), figures)
 }
 
 // The count, the index of the next part and the done mark of a call; channel, row, column and side of the map value that 15 and 25 speak of.
@@ -114,7 +115,7 @@ pub extern "C" fn wemsteky_run(
 ) -> usize
     ensures { Reported tile_engine (start_of (layer_of layer.now)) (tile_total (layer_of layer.now)) map.now kernel.now output.old scratch.old result figures.new output.new scratch.new }
 {
-    let progress = engine::run(layer_of(layer), map, kernel, output, scratch);
+    let progress = engine::run_by(Method::Tiles, layer_of(layer), map, kernel, output, scratch);
     report(progress, figures)
 }
 
@@ -129,7 +130,14 @@ pub extern "C" fn wemsteky_strip_run(
 ) -> usize
     ensures { Reported strip_engine (start_of (layer_of layer.now)) (strip_total (layer_of layer.now)) map.now kernel.now output.old scratch.old result figures.new output.new scratch.new }
 {
-    let progress = engine::run_strips(layer_of(layer), map, kernel, output, scratch);
+    let progress = engine::run_by(
+        Method::Strips,
+        layer_of(layer),
+        map,
+        kernel,
+        output,
+        scratch,
+    );
     report(progress, figures)
 }
 
@@ -147,7 +155,7 @@ pub extern "C" fn wemsteky_job(
     ensures { Reported tile_engine (record { layer = layer_of layer.now; next = next }) budget map.now kernel.now output.old scratch.old result figures.new output.new scratch.new }
 {
     let job = job_of(layer, next);
-    let progress = job.advance(budget, map, kernel, output, scratch);
+    let progress = job.advance_by(Method::Tiles, budget, map, kernel, output, scratch);
     report(progress, figures)
 }
 
@@ -165,7 +173,7 @@ pub extern "C" fn wemsteky_strip_job(
     ensures { Reported strip_engine (record { layer = layer_of layer.now; next = next }) budget map.now kernel.now output.old scratch.old result figures.new output.new scratch.new }
 {
     let job = job_of(layer, next);
-    let progress = job.advance_strips(budget, map, kernel, output, scratch);
+    let progress = job.advance_by(Method::Strips, budget, map, kernel, output, scratch);
     report(progress, figures)
 }
 
@@ -184,7 +192,7 @@ pub extern "C" fn wemsteky_preview(
     ensures figures_after { figures.new ≡ preview_figures (preview_of tile_engine (record { layer = layer_of layer.now; next = next }) budget map.now kernel.now (length output.now) (length scratch.now)) }
 {
     let job = job_of(layer, next);
-    let preview = job.preview(budget, map, kernel, output, scratch);
+    let preview = job.preview_by(Method::Tiles, budget, map, kernel, output, scratch);
     report_preview(preview, figures)
 }
 
@@ -203,7 +211,7 @@ pub extern "C" fn wemsteky_strip_preview(
     ensures figures_after { figures.new ≡ preview_figures (preview_of strip_engine (record { layer = layer_of layer.now; next = next }) budget map.now kernel.now (length output.now) (length scratch.now)) }
 {
     let job = job_of(layer, next);
-    let preview = job.preview_strips(budget, map, kernel, output, scratch);
+    let preview = job.preview_by(Method::Strips, budget, map, kernel, output, scratch);
     report_preview(preview, figures)
 }
 

@@ -6,4 +6,4 @@ use Rattle.wemsteky.proofs.wemsteky_job.Goals as goal
 pub returns : goal.returns
 returns c =
     let g = c.args in
-    reported (λ (j : Job). j) (λ (j : Job). g.budget) c.job_of-job.ensures c.advance-progress.ensures c.report.ensures.value c.report.ensures.figures_after
+    reported (λ (j : Job). j) (λ (j : Job). g.budget) c.job_of-job.ensures c.advance_by-progress.ensures c.report.ensures.value c.report.ensures.figures_after

@@ -11,5 +11,5 @@ returns c =
     let g = c.args in
     let made =
     previewed (λ (j : Job). preview_of tile_engine j g.budget g.map.now g.kernel.now (length g.output.now) (length g.scratch.now))
-    c.job_of-job.ensures c.preview-preview.ensures c.report_preview.ensures.value c.report_preview.ensures.figures_after
+    c.job_of-job.ensures c.preview_by-preview.ensures c.report_preview.ensures.value c.report_preview.ensures.figures_after
     in record { value = made.0; figures_after = made.1 }

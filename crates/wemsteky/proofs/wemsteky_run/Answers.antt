@@ -6,4 +6,4 @@ use Rattle.wemsteky.proofs.wemsteky_run.Goals as goal
 
 pub returns : goal.returns
 returns c =
-    reported start_of tile_total c.layer_of.ensures c.run-progress.ensures c.report.ensures.value c.report.ensures.figures_after
+    reported start_of tile_total c.layer_of.ensures c.run_by-progress.ensures c.report.ensures.value c.report.ensures.figures_after

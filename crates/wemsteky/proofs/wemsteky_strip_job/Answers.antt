@@ -6,5 +6,5 @@ use Rattle.wemsteky.proofs.wemsteky_strip_job.Goals as goal
 pub returns : goal.returns
 returns c =
     let g = c.args in
-    reported (λ (j : Job). j) (λ (j : Job). g.budget) c.job_of-job.ensures c.advance_strips-progress.ensures
+    reported (λ (j : Job). j) (λ (j : Job). g.budget) c.job_of-job.ensures c.advance_by-progress.ensures
     c.report.ensures.value c.report.ensures.figures_after

@@ -8,5 +8,5 @@ use Rattle.wemsteky.proofs.wemsteky_strip_plan.Goals as goal
 
 pub returns : goal.returns
 returns c =
-    let same = c.plan_strips.ensures ∙ ap (plan_of strip_engine) c.layer_of.ensures in
+    let same = c.plan_by.ensures ∙ ap (plan_of strip_engine) c.layer_of.ensures in
     record { value = c.show_plan.ensures.value ∙ ap (λ (p : Plan). p.code) same; figures_after = c.show_plan.ensures.figures_after ∙ ap plan_figures same }

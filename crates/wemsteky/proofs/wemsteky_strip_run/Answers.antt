@@ -6,5 +6,5 @@ use Rattle.wemsteky.proofs.wemsteky_strip_run.Goals as goal
 
 pub returns : goal.returns
 returns c =
-    reported start_of strip_total c.layer_of.ensures c.run_strips-progress.ensures
+    reported start_of strip_total c.layer_of.ensures c.run_by-progress.ensures
     c.report.ensures.value c.report.ensures.figures_after
