@@ -1,37 +1,23 @@
--- A row grows place by place, and the rows of a tile row by row. It rests on the laws of written places.
+-- The rows of a tile are stored row by row. It rests on the laws of written places.
 use mathlib.Core.Path.{◌≡◌, ap, ap₂, ◌∙◌}
 use mathlib.Core.Logic.{◌⊎◌, inl, inr}
 use mathlib.Core.List.{List}
 use Prim.Native.Nat.{ℕ, ◌+◌, ◌*◌, ◌-◌, ◌/◌, ◌%◌, ◌^◌, ◌<◌, ◌≤◌}
-use native.Mathlib.Nat.{div-add-mod', add_assoc, add-sub_cancel_left, mul-le-mul_right}
+use native.Mathlib.Nat.{div-add-mod', add_assoc, mul-le-mul_right}
 use native.Mathlib.Decide.{ℕ_discrete}
 use native.Mathlib.Omega.{arith}
 use lib.Arith.{digits_lt, digits_div, digits_mod}
 use lib.IntN.{ℤ}
 use lib.Pow.{pow_mono}
-use lib.ListN.{length, get_or, set}
-use mir.Syntax.{w32}
-use mir.Val.{SFits, to_z, of_z}
-use mir.Facts.{to_z-of_z}
+use lib.ListN.{length, get_or}
 use Rattle.algebra.specs.Places.{Run}
-use Rattle.algebra.specs.PlacesLaws.{written_nothing, written_longer, written_as, written_again}
+use Rattle.algebra.specs.PlacesLaws.{written_nothing, written_as, written_again}
 use Rattle.fermat.specs.Field.{transform_length}
 use Rattle.spectrum.specs.Value.{offset_of, less_offset}
 use Rattle.layer.specs.declared.shape.Layer.{Layer}
 use Rattle.layer.specs.Shape.{grid_step}
 use Rattle.store.specs.declared.Held.{Held}
 use Rattle.store.specs.Held.{RowStorable, RowStored, WithWords, RowsStorable, RowsStored}
-
--- ---- a row
-
-module _ (offset at from step : ℕ) (words : List ℕ) {xs : List ℤ} where
-  pub row_none : RowStored offset at from step 0 words xs xs
-  row_none = written_nothing (λ p h. omega arith)
-
-  pub row_next : {ys : List ℤ} (i : ℕ) (x : ℤ) → at + i < length xs → RowStored offset at from step i words xs ys
-      → SFits w32 x → x ≡ less_offset offset (get_or words (from + i * step) 0)
-      → RowStored offset at from step (i + 1) words xs (set ys (at + i) (to_z w32 (of_z w32 x)))
-  row_next i x l w fits e = written_longer at i _ l w (rw (add-sub_cancel_left at i) (to_z-of_z fits ∙ e))
 
 -- ---- the words of the rows
 

@@ -12,7 +12,6 @@ ghost use Rattle.layer.specs.Shape.{grid_step, span, tile_total, tile_of};
 ghost use Rattle.store.specs.Stored.{word_of, stored_at};
 ghost use Rattle.store.specs.Held.{HeldBy, RowStorable, RowStored, WithWords, RowsStorable, RowsStored};
 
-use base::number::{ceiling_div, lesser};
 use fermat::field;
 use layer::shape::Layer;
 use layer::{place, sizes};
@@ -26,59 +25,14 @@ pub struct Held {
     pub word: usize, // the row or the column of the part's words that the first one's are in
 }
 
-// Stores words that stand side by side. It has a loop of its own, which is compiled to many words at a time.
-fn store_run(output: &mut [i32], at: usize, words: &[u64], from: usize, count: usize, offset: u64)
-    requires { (offset ≤ 2147483648) × (at + count ≤ length output.old) × RowStorable offset from 1 count words.now }
-    ensures { RowStored offset at from 1 count words.now output.old output.new }
+// Stores a row: each place has a word, `STEP` words after that of the place before. The step is a constant, so that the loop for words that stand
+// side by side is compiled to many words at a time.
+pub fn store_row<const STEP: usize>(output: &mut [i32], words: &[u64], offset: u64)
+    requires { (offset ≤ 2147483648) × RowStorable offset 0 STEP (length output.old) words.now }
+    ensures { RowStored offset 0 0 STEP (length output.old) words.now output.old output.new }
 {
-    let mut i = 0;
-    while i < count {
-        let value = value_of(words[from + i], offset);
-        let place = at + i;
-        output[place] = value;
-        i += 1;
-    }
-}
-
-// Stores words that stand `step` apart.
-fn store_spaced(
-    output: &mut [i32],
-    at: usize,
-    words: &[u64],
-    from: usize,
-    step: usize,
-    count: usize,
-    offset: u64,
-)
-    requires { (offset ≤ 2147483648) × (at + count ≤ length output.old) × RowStorable offset from step count words.now }
-    ensures { RowStored offset at from step count words.now output.old output.new }
-{
-    let mut i = 0;
-    while i < count {
-        let value = value_of(words[from + i * step], offset);
-        let place = at + i;
-        output[place] = value;
-        i += 1;
-    }
-}
-
-// Stores a row.
-pub fn store_row(
-    output: &mut [i32],
-    at: usize,
-    words: &[u64],
-    from: usize,
-    step: usize,
-    count: usize,
-    offset: u64,
-)
-    requires { (offset ≤ 2147483648) × (at + count ≤ length output.old) × RowStorable offset from step count words.now }
-    ensures { RowStored offset at from step count words.now output.old output.new }
-{
-    if step == 1 {
-        store_run(output, at, words, from, count, offset);
-    } else {
-        store_spaced(output, at, words, from, step, count, offset);
+    for (i, place) in output.iter_mut().enumerate() {
+        *place = value_of(words[i * STEP], offset);
     }
 }
 
@@ -87,7 +41,7 @@ fn first_held(part: usize, side: usize, step: usize) -> usize
     requires { (part ≤ 8292) × (side ≤ 256) × (1 ≤ step) × (step ≤ 4) }
     ensures { result ≡ ceiling_div (part * side) step }
 {
-    ceiling_div(part * side, step)
+    (part * side).div_ceil(step)
 }
 
 // The first row or column after this part, or `count` where there is none.
@@ -95,7 +49,7 @@ fn end_held(part: usize, side: usize, step: usize, count: usize) -> usize
     requires { (part < 8292) × (side ≤ 256) × (1 ≤ step) × (step ≤ 4) }
     ensures { result ≡ min (ceiling_div ((part + 1) * side) step) count }
 {
-    lesser(first_held(part + 1, side, step), count)
+    first_held(part + 1, side, step).min(count)
 }
 
 // Which of `count` rows or columns of the output lie in this part of a line of parts, each of `side` grid places.
@@ -115,22 +69,42 @@ pub fn held_in(layer: Layer, side: usize, part: usize, count: usize) -> Held
     }
 }
 
-// Stores the places that the tile holds. The output is lent from the channel's first row on.
+// Stores the places that the tile holds, where the words of a row stand `STEP` apart. The output is lent from the channel's first row on.
+fn store_rows_apart<const STEP: usize>(
+    output: &mut [i32],
+    words: &[u64],
+    layer: Layer,
+    rows: Held,
+    columns: Held,
+)
+    requires planned { Planned layer × WithWords layer rows × WithWords layer columns }
+    requires columns_in_bounds { ((rows.first + rows.count) * layer.columns ≤ length output.old) × (columns.first + columns.count ≤ layer.columns) }
+    requires field_in_bounds { (transform_length layer.field * transform_length layer.field ≤ length words.now) × RowsStorable layer rows columns words.now }
+    requires step { STEP ≡ grid_step layer }
+    ensures { RowsStored layer rows columns rows.count words.now output.old output.new }
+{
+    let n = field::transform_length(layer.field);
+    let offset = offset_of(layer.field);
+    for r in 0..rows.count {
+        let at = (rows.first + r) * layer.columns + columns.first;
+        let end = at + columns.count;
+        let from = (rows.word + r * STEP) * n + columns.word;
+        store_row::<STEP>(&mut output[at..end], &words[from..], offset);
+    }
+}
+
+// Stores the places that the tile holds.
 fn store_rows(output: &mut [i32], words: &[u64], layer: Layer, rows: Held, columns: Held)
     requires planned { Planned layer × WithWords layer rows × WithWords layer columns }
     requires columns_in_bounds { ((rows.first + rows.count) * layer.columns ≤ length output.old) × (columns.first + columns.count ≤ layer.columns) }
     requires field_in_bounds { (transform_length layer.field * transform_length layer.field ≤ length words.now) × RowsStorable layer rows columns words.now }
     ensures { RowsStored layer rows columns rows.count words.now output.old output.new }
 {
-    let n = field::transform_length(layer.field);
-    let step = sizes::grid_step(layer);
-    let offset = offset_of(layer.field);
-    let mut r = 0;
-    while r < rows.count {
-        let at = (rows.first + r) * layer.columns + columns.first;
-        let from = (rows.word + r * step) * n + columns.word;
-        store_row(output, at, words, from, step, columns.count, offset);
-        r += 1;
+    match sizes::grid_step(layer) {
+        1 => store_rows_apart::<1>(output, words, layer, rows, columns),
+        2 => store_rows_apart::<2>(output, words, layer, rows, columns),
+        3 => store_rows_apart::<3>(output, words, layer, rows, columns),
+        _ => store_rows_apart::<4>(output, words, layer, rows, columns),
     }
 }
 

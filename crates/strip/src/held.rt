@@ -3,7 +3,9 @@ ghost use Rattle.std.specs.Prelude.{◌≡◌, ℕ, ◌*◌, ◌≤◌, ◌<◌,
 ghost use Rattle.algebra.specs.Places.{Written};
 ghost use Rattle.spectrum.specs.Value.{offset_of, Storable};
 ghost use Rattle.layer.specs.Planned.{Planned};
+ghost use Rattle.layer.specs.Shape.{grid_step};
 ghost use Rattle.layer.specs.Strip.{strip_total, strip_of};
+ghost use Rattle.store.specs.Held.{RowStorable, RowStored};
 ghost use Rattle.strip.specs.Stored.{strip_word, strip_stored_at};
 
 use layer::shape::Layer;
@@ -11,6 +13,20 @@ use layer::sizes::grid_step;
 use layer::strips::{strip_length, strip_place};
 use spectrum::value::offset_of;
 use store::{held_in, store_row};
+
+// Stores the columns that the strip holds: the words stand a grid step apart.
+fn store_columns(output: &mut [i32], words: &[u64], layer: Layer)
+    requires { Planned layer × RowStorable (offset_of layer.field) 0 (grid_step layer) (length output.old) words.now }
+    ensures { RowStored (offset_of layer.field) 0 0 (grid_step layer) (length output.old) words.now output.old output.new }
+{
+    let offset = offset_of(layer.field);
+    match grid_step(layer) {
+        1 => store_row::<1>(output, words, offset),
+        2 => store_row::<2>(output, words, offset),
+        3 => store_row::<3>(output, words, offset),
+        _ => store_row::<4>(output, words, offset),
+    }
+}
 
 pub(crate) fn store_strip(output: &mut [i32], words: &[u64], layer: Layer, strip: usize)
     requires planned { Planned layer × (length output.old ≡ layer.outputs * layer.rows * layer.columns) × (strip < strip_total layer) × (256 ≤ length words.now) }
@@ -20,7 +36,6 @@ pub(crate) fn store_strip(output: &mut [i32], words: &[u64], layer: Layer, strip
     let place = strip_place(layer, strip);
     let columns = held_in(layer, strip_length(layer), place.column, layer.columns);
     let at = (place.channel * layer.rows + place.row) * layer.columns + columns.first;
-    let step = grid_step(layer);
-    let offset = offset_of(layer.field);
-    store_row(output, at, words, columns.word, step, columns.count, offset);
+    let end = at + columns.count;
+    store_columns(&mut output[at..end], &words[columns.word..], layer);
 }

@@ -1,9 +1,10 @@
 -- `store_strip` finds the columns that the strip holds, and stores them as one run. HeldPlaces has the laws.
-use mathlib.Core.Path.{◌≡◌, refl, ap₂, subst}
-use Prim.Native.Nat.{ℕ, ◌+◌, ◌*◌, ◌≤◌, ◌<◌}
+use mathlib.Core.Path.{◌≡◌, refl, ap₂, ◌∙◌, subst}
+use Prim.Native.Nat.{ℕ, ◌+◌, ◌*◌, ◌-◌, ◌≤◌, ◌<◌}
 use native.Mathlib.Omega.{arith}
 use lib.Arith.{digits_lt}
-use Rattle.fermat.specs.FieldSizeLaws.{power_high}
+use lib.ListN.{drop, length-drop}
+use lib.Seq.{length-take-le}
 use Rattle.layer.specs.CountLaws.{output_rows_high, output_high}
 use Rattle.layer.specs.declared.shape.Layer.{Layer}
 use Rattle.layer.specs.Strip.{strip_length, strip_channel, strip_row, strip_column}
@@ -11,6 +12,7 @@ use Rattle.layer.specs.StripLaws.{strip_length_low, strip_length_high, strip_cha
 use Rattle.layer.specs.PartLaws.{step_range}
 use Rattle.layer.specs.TileSizeLaws.{columns_wanted}
 use Rattle.store.specs.Held.{HeldBy}
+use Rattle.store.specs.LentLaws.{lent_storable, row_lent}
 use Rattle.strip.proofs.HeldPlaces.{row_ends, run_fits, strip_stored}
 use Rattle.strip.proofs.held.store_strip.Goals as goal
 use Rattle.strip.proofs.held.store_strip.Goals.{After-held_in-columns}
@@ -74,23 +76,31 @@ overflow_mul-at-2 c = omega (arith, small (goal.at.overflow_mul-at-2 c).After-he
 pub overflow_add-at-2 : goal.overflow_add-at-2
 overflow_add-at-2 c = omega (arith, small (goal.at.overflow_add-at-2 c).After-held_in-columns)
 
-pub offset_of-offset-requires : goal.offset_of-offset-requires
-offset_of-offset-requires c = c.requires.planned.0.shape.field_high
+pub overflow_add-end : goal.overflow_add-end
+overflow_add-end c = omega (arith, small (goal.at.overflow_add-end c).After-held_in-columns, ends (goal.at.overflow_add-end c).After-held_in-columns)
 
-pub store_row-requires : goal.store_row-requires
-store_row-requires c =
+pub offset_bounds-output-at : goal.offset_bounds-output-at
+offset_bounds-output-at c = omega (arith, small (goal.at.offset_bounds-output-at c).After-held_in-columns)
+
+pub slice_bounds-store_columns-end : goal.slice_bounds-store_columns-end
+slice_bounds-store_columns-end c =
+    omega (arith, ends (goal.at.slice_bounds-store_columns-end c).After-held_in-columns, c.requires.planned.1)
+
+pub store_columns-requires : goal.store_columns-requires
+store_columns-requires c =
     let layer = c.args.layer in
+    let out = c.args.output.now in
     let (plan, length, below, words) = c.requires.planned in
-    let found = (goal.at.store_row-requires c).After-held_in-columns in
-    let fits = run_fits layer plan c.args.strip below c.held_in-columns.result (held found) c.args.words.now
-    length words c.requires.by_index in (
-      omega (arith, c.offset_of-offset.ensures, power_high layer.field plan.shape.field_high),
-      omega (arith, ends found, length),
-      rw (c.offset_of-offset.ensures, c.grid_step-step.ensures) fits,
-    )
+    let found = (goal.at.store_columns-requires c).After-held_in-columns in
+    let at : ℕ = row found * layer.columns + c.held_in-columns.result.first in
+    let count : ℕ = c.held_in-columns.result.count in
+    let size = length-take-le (at + count - at) (drop at out) (omega (arith, length-drop at out, ends found, length)) in
+    let fits = run_fits layer plan c.args.strip below c.held_in-columns.result (held found) c.args.words.now length words c.requires.by_index in
+    (plan, lent_storable c.args.words.now _ _ _ (size ∙ omega arith) fits)
 
 pub returns : goal.returns
 returns c =
     let found = (goal.at.returns c).After-held_in-columns in
     strip_stored c.args.layer c.requires.planned.0 c.args.strip c.requires.planned.2 c.held_in-columns.result (held found)
-    c.args.words.now _ (ap₂ ◌+◌ (row_is found) refl) c.offset_of-offset.ensures c.grid_step-step.ensures c.store_row.ensures
+    c.args.words.now _ (ap₂ ◌+◌ (row_is found) refl) refl refl
+    (row_lent c.args.words.now _ _ _ (omega arith) (omega (arith, ends found, c.requires.planned.1)) c.store_columns.ensures)
