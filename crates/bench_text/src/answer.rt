@@ -59,7 +59,7 @@ fn put_outputs(
     ensures { Appended 0 (ran layer map.now kernel.now) lines.old lines.new result }
 {
     let mut scratch = [0u64; 3072];
-    let progress = engine::run(layer, map, kernel, output, &mut scratch);
+    let progress = engine::run_by(Method::Tiles, layer, map, kernel, output, &mut scratch);
     if progress.code != 0 {
         return lines::put_numbered(lines, 0, b"refused", progress.code);
     }

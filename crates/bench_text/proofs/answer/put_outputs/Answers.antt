@@ -13,12 +13,12 @@ use Rattle.bench_text.proofs.answer.put_outputs.Goals.{After-put_numbered-at}
 module _ (c : After-put_numbered-at) where
   line_few : c.put_numbered-at.result ≤ 27
   line_few =
-      let few = decimal_few c.run-progress.result.count 20 (omega arith) (omega arith) in
+      let few = decimal_few c.run_by-progress.result.count 20 (omega arith) (omega arith) in
       omega (arith, simp length-append at c.put_numbered-at.ensures.ends, few)
 
 pub returns-then-progress-ne0 : goal.returns-then-progress-ne0
 returns-then-progress-ne0 c =
-    rw (run_refused c.run-progress.ensures c.requires.1 refl c.if-progress-ne0.true) c.put_numbered.ensures
+    rw (run_refused c.run_by-progress.ensures c.requires.1 refl c.if-progress-ne0.true) c.put_numbered.ensures
 
 pub put_rows-requires : goal.put_rows-requires
 put_rows-requires c =
@@ -26,5 +26,5 @@ put_rows-requires c =
 
 pub returns : goal.returns
 returns c =
-    rw (run_accepted c.run-progress.ensures c.requires.1 refl c.if-progress-ne0.false)
+    rw (run_accepted c.run_by-progress.ensures c.requires.1 refl c.if-progress-ne0.false)
     (append_two c.put_numbered-at.ensures c.put_rows.ensures)
