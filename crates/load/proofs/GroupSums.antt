@@ -5,14 +5,19 @@ use mathlib.Core.Bool.{Bool, true, false, ◌&&◌, cond}
 use mathlib.Core.List.{List}
 use Prim.Native.Nat.{ℕ, ◌+◌, ◌*◌, ◌%◌}
 use native.Mathlib.Nat.{mod-one}
+use native.Mathlib.Numerals.{add-one}
 use lib.Dec.{eqb}
 use lib.IntN.{ℤ, pos, nat_abs}
 use lib.ListN.{length, get_or}
 use Rattle.algebra.specs.Sum.{sum}
-use Rattle.algebra.specs.SumLaws.{naturals, sum_cong, sum_zero, sum_flat}
+use Rattle.algebra.specs.SumLaws.{naturals, sum_cong, sum_zero, sum_flat, sum_last}
 use Rattle.load.specs.declared.groups.Group.{Group}
 use Rattle.load.specs.Load.{in_group}
 use Rattle.load.specs.Weights.{size_sum, apart, group_sum}
+
+-- what one number more adds
+pub size_next : (n : ℕ) (f : ℕ → ℕ) → sum (n + 1) f ≡ sum n f + f n
+size_next n f = rw add-one (sum_last n f)
 
 -- the sum over a group of K by K numbers
 abbrev pub group_of : (K S p q : ℕ) → (ℕ → ℕ → ℕ) → ℕ

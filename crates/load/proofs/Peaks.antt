@@ -11,15 +11,9 @@ use lib.Dec.{T, leb, ltb}
 use lib.IntN.{ℤ, pos, negsuc, neg_ℤ, nat_abs}
 use lib.ListN.{length, get_or, drop, drop_of_length-le}
 use lib.Seq.{drop-cons}
-use lib.Signed.{lt_z, non_neg}
+use lib.Signed.{non_neg}
+use Rattle.std.specs.Int.{int_min, int_max}
 use Rattle.load.specs.Load.{within_peak}
-
--- the lesser and the greater of two values, by the tests that the code makes
-abbrev pub lesser : (old v : ℤ) → ℤ
-lesser old v = cond (lt_z v old) v old
-
-abbrev pub greater : (old v : ℤ) → ℤ
-greater old v = cond (lt_z old v) v old
 
 -- the sizes of both are within the peak
 abbrev pub both_within : (peak : ℕ) (low high : ℤ) → Bool
@@ -49,7 +43,7 @@ picked f a b = go (ltb a b) refl
     go false e = let l : b ≤ a = ltb-false a b e in ap f (omega arith)
 
 -- a least value is not above 0 and stays so, and its size goes up to how far v lies below 0
-lowered : (low v : ℤ) → T (non_neg (neg_ℤ low)) → T (non_neg (neg_ℤ (lesser low v))) × (nat_abs (lesser low v) ≡ max (nat_abs low) (under v))
+lowered : (low v : ℤ) → T (non_neg (neg_ℤ low)) → T (non_neg (neg_ℤ (int_min low v))) × (nat_abs (int_min low v) ≡ max (nat_abs low) (under v))
 lowered (pos zero) (pos n) h = let e : ltb n 0 ≡ false = le-ltb n 0 (omega arith) in rw e (tt, omega arith)
 lowered (pos zero) (negsuc n) h = (tt, omega arith)
 lowered (pos (suc a)) v h = absurd h
@@ -57,8 +51,8 @@ lowered (negsuc a) (pos n) h = (tt, omega arith)
 lowered (negsuc a) (negsuc n) h = rw (picked negsuc a n) (tt, omega arith)
 
 -- a greatest value is not below 0 and stays so, and its size goes up to how far v lies above 0
-raised : (high v : ℤ) → T (non_neg high) → T (non_neg (greater high v)) × (nat_abs (greater high v) ≡ max (nat_abs high) (over v))
-raised (pos a) (pos n) h = rw (picked pos a n) (tt, refl)
+raised : (high v : ℤ) → T (non_neg high) → T (non_neg (int_max high v)) × (nat_abs (int_max high v) ≡ max (nat_abs high) (over v))
+raised (pos a) (pos n) h = rw (picked pos n a) (tt, omega arith)
 raised (pos a) (negsuc n) h = (tt, omega arith)
 raised (negsuc a) v h = absurd h
 
@@ -73,9 +67,9 @@ leb_max a b peak = go (leb a peak) refl (leb b peak) refl
 
 -- the size of v is within the peak when the sizes of the new least and greatest values are
 one_more : (peak : ℕ) (low high v : ℤ) → T (non_neg (neg_ℤ low)) → T (non_neg high)
-    → both_within peak low high && leb (nat_abs v) peak ≡ both_within peak (lesser low v) (greater high v)
+    → both_within peak low high && leb (nat_abs v) peak ≡ both_within peak (int_min low v) (int_max high v)
 one_more peak low high v l h =
-    let size : max (max (nat_abs low) (nat_abs high)) (nat_abs v) ≡ max (nat_abs (lesser low v)) (nat_abs (greater high v))
+    let size : max (max (nat_abs low) (nat_abs high)) (nat_abs v) ≡ max (nat_abs (int_min low v)) (nat_abs (int_max high v))
     = omega (arith, (lowered low v l).1, (raised high v h).1, under_over v) in
     simp leb_max (ap (λ (n : ℕ). leb n peak) size)
 
@@ -98,7 +92,7 @@ module _ {peak : ℕ} {values : List ℤ} where
   }
 
   pub pass_next : {low high low' high' : ℤ} (i : ℕ) → i < length values → Passed peak values low high i
-      → low' ≡ lesser low (get_or values i (pos 0)) → high' ≡ greater high (get_or values i (pos 0)) → Passed peak values low' high' (i + 1)
+      → low' ≡ int_min low (get_or values i (pos 0)) → high' ≡ int_max high (get_or values i (pos 0)) → Passed peak values low' high' (i + 1)
   unfolding within_peak
   pass_next {low} {high} i l w p q =
       rw (p, q) record {

@@ -3,7 +3,6 @@ ghost use Rattle.std.specs.Prelude.{◌≡◌, ◌+◌, ◌*◌, ◌≤◌, ◌<
 ghost use Rattle.load.specs.Load.{group_total, greatest_group};
 ghost use Rattle.load.specs.Weights.{size_sum, apart, group_sum, IsGroup, Weighted};
 
-use crate::values::size_at;
 use layer::planes::planes_to;
 use layer::shape::Layer;
 
@@ -16,17 +15,16 @@ pub struct Group {
 }
 
 // The sum of the sizes of the weights of a run, at most a plane of 11 by 11. It is made in 32 bits, which is quicker than in 64.
+#[tactic(auto, using(algebra::specs::SumLaws::sum_none), unfolding(crate::specs::Weights::size_sum))]
 fn size_sum(run: &[i16]) -> u64
     requires { length run.now ≤ 121 }
     ensures { (result ≡ size_sum run.now) × (result ≤ 121 * 32768) }
 {
     let mut total: u32 = 0;
-    let mut i = 0;
-    while i < run.len() {
-        total += size_at(run, i) as u32;
-        i += 1;
+    for v in run {
+        total += u32::from(v.unsigned_abs());
     }
-    total as u64
+    u64::from(total)
 }
 
 // The sum of the sizes of a group's weights in the row that begins at `from`.
@@ -39,7 +37,7 @@ fn row_sum(plane: &[i16], from: usize, side: usize, group: Group) -> u64
     let mut total: u64 = 0;
     let mut b = group.column;
     while b < side {
-        total += size_at(plane, from + b);
+        total += u64::from(plane[from + b].unsigned_abs());
         b += step;
     }
     total
@@ -81,13 +79,10 @@ pub(crate) fn group_total(layer: Layer, kernel: &[i16], m: usize, group: Group) 
     let area = layer.side * layer.side;
     let planes = planes_to(layer, m);
     let mut total: u64 = 0;
-    let mut c = 0;
-    while c < layer.inputs {
+    for c in 0..layer.inputs {
         let from = (planes.first + c * planes.step) * area;
-        let to = from + area;
-        let plane = &kernel[from..to];
+        let plane = &kernel[from..from + area];
         total += plane_sum(plane, layer.side, group);
-        c += 1;
     }
     total
 }
@@ -99,18 +94,13 @@ pub fn greatest_group(layer: Layer, kernel: &[i16], m: usize) -> u64
 {
     let step = layer.stride;
     let mut most: u64 = 0;
-    let mut i = 0;
-    while i < step * step {
+    for i in 0..step * step {
         let group = Group {
-            step: step,
+            step,
             row: i / step,
             column: i % step,
         };
-        let total = group_total(layer, kernel, m, group);
-        if most < total {
-            most = total;
-        }
-        i += 1;
+        most = most.max(group_total(layer, kernel, m, group));
     }
     most
 }

@@ -8,7 +8,7 @@ ghost use Rattle.load.specs.Blank.{blank, none_blank};
 ghost use Rattle.load.specs.Weights.{Weighted};
 
 use groups::{Group, greatest_group, group_total};
-use layer::shape::Layer;
+use layer::shape::{Kind, Layer};
 
 pub mod groups;
 pub mod offender;
@@ -41,10 +41,10 @@ fn load_fits(layer: Layer, kernel: &[i16], m: usize, total: u64, limit: u64) -> 
     if peak * total <= limit {
         return true;
     }
-    if layer.kind == 0 {
-        return false;
+    match layer.kind_of() {
+        Kind::Conv => false,
+        Kind::Tconv => peak * greatest_group(layer, kernel, m) <= limit,
     }
-    peak * greatest_group(layer, kernel, m) <= limit
 }
 
 // The sum of the sizes of all weights that reach output channel m.
@@ -82,15 +82,10 @@ pub fn judge_channels(layer: Layer, kernel: &[i16]) -> Judged
     let limit = load_limit(layer.field);
     let mut nonzero = true;
     let mut fits = true;
-    let mut m = 0;
-    while m < layer.outputs {
+    for m in 0..layer.outputs {
         let judged = judge_channel(layer, kernel, m, limit);
-        nonzero = nonzero & judged.nonzero;
-        fits = fits & judged.fits;
-        m += 1;
+        nonzero &= judged.nonzero;
+        fits &= judged.fits;
     }
-    Judged {
-        nonzero: nonzero,
-        fits: fits,
-    }
+    Judged { nonzero, fits }
 }

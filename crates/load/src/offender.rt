@@ -4,7 +4,7 @@ ghost use Rattle.std.specs.Prelude.{◌≡◌, length};
 ghost use Rattle.layer.specs.Shape.{map_count};
 ghost use Rattle.load.specs.Offender.{side_of, no_offender, offender_of};
 
-use crate::values::{size, within_peak};
+use crate::values::within_peak;
 use layer::shape::Layer;
 
 // A value beyond the peak; zeros where there is none.
@@ -34,7 +34,7 @@ impl Offender {
 fn side_of(value: i16, peak: usize) -> usize
     ensures { result ≡ side_of peak value }
 {
-    if size(value) <= peak as u64 {
+    if usize::from(value.unsigned_abs()) <= peak {
         return 0;
     }
     if value < 0 { 2 } else { 1 }
@@ -47,28 +47,22 @@ fn search(layer: Layer, map: &[i16]) -> Offender
 {
     let mut found = Offender::none();
     let mut i = 0;
-    let mut channel = 0;
-    'channels: while channel < layer.inputs {
-        let mut row = 0;
-        while row < layer.height {
-            let mut column = 0;
-            while column < layer.width {
+    'channels: for channel in 0..layer.inputs {
+        for row in 0..layer.height {
+            for column in 0..layer.width {
                 let side = side_of(map[i], layer.peak);
                 if side != 0 {
                     found = Offender {
-                        channel: channel,
-                        row: row,
-                        column: column,
-                        side: side,
+                        channel,
+                        row,
+                        column,
+                        side,
                     };
                     break 'channels;
                 }
                 i += 1;
-                column += 1;
             }
-            row += 1;
         }
-        channel += 1;
     }
     found
 }

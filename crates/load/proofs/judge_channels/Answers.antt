@@ -9,16 +9,15 @@ use Rattle.load.proofs.judge_channels.Invariants.{reached, within}
 use Rattle.load.proofs.judge_channels.Goals as goal
 
 pub loop-m-init : goal.loop-m-init
-loop-m-init c = (omega arith, refl, refl)
+loop-m-init c = (refl, refl)
 
 pub loop-m-preserved : goal.loop-m-preserved
 loop-m-preserved c =
-    let (_, reached-before, within-before) = c.loop-m.invariant in
+    let (reached-before, within-before) = c.loop-m.invariant in
     let a = c.args in
     let m = c.loop-m.m in
     let is-reached = c.judge_channel-judged.ensures.nonzero_value in
     let is_Within = c.judge_channel-judged.ensures.fits_value ∙ ap (leb _) c.load_limit-limit.ensures in (
-      omega arith,
       ap₂ ◌&&◌ reached-before is-reached ∙ every_next (reached a.layer a.kernel.now) m,
       ap₂ ◌&&◌ within-before is_Within ∙ every_next (within a.layer a.kernel.now) m,
     )
@@ -27,4 +26,4 @@ pub returns : goal.returns
 unfolding none_blank loads_fit
 returns c =
     let done : c.loop-m.m ≡ c.args.layer.outputs = omega arith in
-    record { nonzero_value = rw (c.loop-m.invariant.1, done); fits_value = rw (c.loop-m.invariant.2, done) }
+    record { nonzero_value = rw (c.loop-m.invariant.0, done); fits_value = rw (c.loop-m.invariant.1, done) }

@@ -3,7 +3,7 @@
 use mathlib.Core.Path.{◌≡◌}
 use mathlib.Core.Bool.{Bool, not}
 use mathlib.Core.List.{List}
-use Prim.Native.Nat.{ℕ, ◌-◌, ◌≤◌}
+use Prim.Native.Nat.{ℕ}
 use lib.Dec.{leb}
 use lib.IntN.{ℤ}
 use Rattle.algebra.specs.Every.{every}
@@ -22,7 +22,4 @@ within layer kernel m = leb (load layer kernel m) (load_limit layer.field)
 
 abbrev pub invariant-loop-m : goal.invariant-loop-m
 invariant-loop-m l =
-    (l.m ≤ l.layer.outputs) × (l.nonzero ≡ every l.m (reached l.layer l.kernel)) × (l.fits ≡ every l.m (within l.layer l.kernel))
-
-abbrev pub decreases-loop-m : goal.decreases-loop-m
-decreases-loop-m l = l.layer.outputs - l.m
+    (l.nonzero ≡ every l.m (reached l.layer l.kernel)) × (l.fits ≡ every l.m (within l.layer l.kernel))

@@ -2,16 +2,14 @@
 -- load.
 use mathlib.Core.Path.{sym, ap, ◌∙◌}
 use Prim.Native.Nat.{ℕ, ◌*◌, ◌≤◌}
-use native.Mathlib.Nat.{le_trans, mul-le-mul}
+use native.Mathlib.Nat.{le_trans}
 use native.Mathlib.Omega.{arith}
 use borrow.Author.Tests.{le-leb, lt-leb}
 use lib.Dec.{leb}
+use Rattle.layer.specs.KindLaws.{conv_number, tconv_number}
 use Rattle.load.specs.Load.{size_total}
 use Rattle.load.proofs.LoadLaws.{load-conv, load-tconv, load_most}
 use Rattle.load.proofs.load_fits.Goals as goal
-
-pub overflow_mul-peak : goal.overflow_mul-peak
-overflow_mul-peak c = omega (arith, mul-le-mul c.requires.weighted.0.peak_most c.requires.total_value.1)
 
 pub returns-then-peak-total : goal.returns-then-peak-total
 returns-then-peak-total c =
@@ -19,17 +17,14 @@ returns-then-peak-total c =
     let within : a.layer.peak * size_total a.layer a.kernel.now a.m ≤ a.limit = omega (arith, rw c.requires.total_value.0 at c.if-peak-total.true) in
     sym (le-leb _ _ (le_trans (load_most a.layer a.kernel.now a.m) within))
 
-pub returns-then-layer-eq0 : goal.returns-then-layer-eq0
-returns-then-layer-eq0 c =
+pub returns-in-Conv : goal.returns-in-Conv
+returns-in-Conv c =
     let a = c.args in
-    sym (ap (λ (n : ℕ). leb n a.limit) (load-conv a.layer a.kernel.now a.m c.if-layer-eq0.true)
+    sym (ap (λ (n : ℕ). leb n a.limit) (load-conv a.layer a.kernel.now a.m (conv_number a.layer c.in-Conv.ensures))
     ∙ lt-leb _ _ (rw c.requires.total_value.0 at c.if-peak-total.false))
 
-pub overflow_mul-result : goal.overflow_mul-result
-overflow_mul-result c = omega (arith, mul-le-mul c.requires.weighted.0.peak_most c.greatest_group.ensures.1)
-
-pub returns : goal.returns
-returns c =
+pub returns-in-Tconv : goal.returns-in-Tconv
+returns-in-Tconv c =
     let a = c.args in
     ap (λ (n : ℕ). leb n a.limit) (ap (λ (n : ℕ). a.layer.peak * n) c.greatest_group.ensures.0
-    ∙ sym (load-tconv a.layer a.kernel.now a.m c.if-layer-eq0.false))
+    ∙ sym (load-tconv a.layer a.kernel.now a.m (tconv_number a.layer c.in-Tconv.ensures)))

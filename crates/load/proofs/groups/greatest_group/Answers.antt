@@ -1,6 +1,6 @@
 use mathlib.Core.Path.{◌≡◌, sym, ap₂, ◌∙◌}
 use mathlib.Core.List.{List}
-use Prim.Native.Nat.{ℕ, ◌+◌, ◌*◌, ◌≤◌}
+use Prim.Native.Nat.{ℕ, ◌*◌, ◌≤◌}
 use native.Mathlib.Nat.{mul-le-mul, mod-lt, div-lt_iff_lt-mul}
 use native.Mathlib.Omega.{arith}
 use lib.Arith.{digits_div, digits_mod}
@@ -12,7 +12,7 @@ use Rattle.layer.specs.declared.shape.Layer.{Layer}
 use Rattle.load.specs.Load.{group_total, greatest_group}
 use Rattle.load.proofs.groups.greatest_group.Invariants.{total_at}
 use Rattle.load.proofs.groups.greatest_group.Goals as goal
-use Rattle.load.proofs.groups.greatest_group.Goals.{Joined-most-total, Start, else-most-total, then-most-total}
+use Rattle.load.proofs.groups.greatest_group.Goals.{Start}
 
 greatest_in_row : (l : Layer) (kernel : List ℤ) (m : ℕ) → greatest (l.stride * l.stride) (total_at l kernel m) ≡ greatest_group l kernel m
 unfolding greatest_group
@@ -22,14 +22,14 @@ greatest_in_row l kernel m =
     ap₂ (group_total l kernel m l.stride) (digits_div p h) (digits_mod p h)))
 
 pub loop-i-init : goal.loop-i-init
-loop-i-init c = (omega arith, sym (greatest_none _), omega arith)
+loop-i-init c = (sym (greatest_none _), omega arith)
 
 -- there are at most 16 groups
 squared : (c : Start) → c.args.layer.stride * c.args.layer.stride ≤ 16
 squared c = mul-le-mul c.requires.0.stride_most c.requires.0.stride_most
 
-pub overflow_mul-step : goal.overflow_mul-step
-overflow_mul-step c = omega (arith, squared (goal.at.overflow_mul-step c).Start)
+pub overflow_mul-i-end : goal.overflow_mul-i-end
+overflow_mul-i-end c = omega (arith, squared (goal.at.overflow_mul-i-end c).Start)
 
 pub nonzero_div-group : goal.nonzero_div-group
 nonzero_div-group c = c.requires.0.stride_least
@@ -37,8 +37,8 @@ nonzero_div-group c = c.requires.0.stride_least
 pub nonzero_rem-group : goal.nonzero_rem-group
 nonzero_rem-group c = c.requires.0.stride_least
 
-pub group_total-total-requires : goal.group_total-total-requires
-group_total-total-requires c = (
+pub group_total-requires : goal.group_total-requires
+group_total-requires c = (
   c.requires.0,
   c.requires.1,
   record {
@@ -48,22 +48,13 @@ group_total-total-requires c = (
   },
 )
 
--- what the branch makes of `most`
-module _ (c : Joined-most-total) where
-  most_next : let a = c.args in
-      (c.if-most-total.most ≡ greatest (c.loop-i.i + 1) (total_at a.layer a.kernel.now a.m)) × (c.if-most-total.most ≤ 121 * 32768 * 64)
-  most_next =
-      let a = c.args in
-      let next = greatest_next c.loop-i.i (total_at a.layer a.kernel.now a.m) in
-      elim c.if-most-total.branch [ then-most-total w ↦ (omega (arith, w), omega (arith, w)) | else-most-total w ↦ (omega (arith, w), omega (arith, w)) ]
-
-pub overflow_add-i : goal.overflow_add-i
-overflow_add-i c = omega (arith, squared (goal.at.overflow_add-i c).Start)
-
 pub loop-i-preserved : goal.loop-i-preserved
-loop-i-preserved c = (omega arith, (most_next c).0, (most_next c).1)
+loop-i-preserved c =
+    let a = c.args in
+    let next = greatest_next c.loop-i.i (total_at a.layer a.kernel.now a.m) in
+    (omega arith, omega arith)
 
 pub returns : goal.returns
 returns c =
     let done : c.loop-i.i ≡ c.args.layer.stride * c.args.layer.stride = omega arith in
-    (rw (c.loop-i.invariant.1, done) (greatest_in_row c.args.layer c.args.kernel.now c.args.m), c.loop-i.invariant.2)
+    (rw (c.loop-i.invariant.0, done) (greatest_in_row c.args.layer c.args.kernel.now c.args.m), c.loop-i.invariant.1)

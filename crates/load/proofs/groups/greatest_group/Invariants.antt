@@ -2,7 +2,7 @@
 -- greatest numbers.
 use mathlib.Core.Path.{◌≡◌}
 use mathlib.Core.List.{List}
-use Prim.Native.Nat.{ℕ, ◌*◌, ◌-◌, ◌/◌, ◌%◌, ◌≤◌}
+use Prim.Native.Nat.{ℕ, ◌*◌, ◌/◌, ◌%◌, ◌≤◌}
 use lib.IntN.{ℤ}
 use Rattle.algebra.specs.Greatest.{greatest}
 use Rattle.layer.specs.declared.shape.Layer.{Layer}
@@ -15,7 +15,4 @@ total_at l kernel m i = group_total l kernel m l.stride (i / l.stride) (i % l.st
 
 abbrev pub invariant-loop-i : goal.invariant-loop-i
 invariant-loop-i l =
-    (l.i ≤ l.step * l.step) × (l.most ≡ greatest l.i (total_at l.layer l.kernel l.m)) × (l.most ≤ 121 * 32768 * 64)
-
-abbrev pub decreases-loop-i : goal.decreases-loop-i
-decreases-loop-i l = l.step * l.step - l.i
+    (l.most ≡ greatest l.i (total_at l.layer l.kernel l.m)) × (l.most ≤ 121 * 32768 * 64)

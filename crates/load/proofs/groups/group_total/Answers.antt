@@ -21,7 +21,7 @@ pub overflow_mul-area : goal.overflow_mul-area
 overflow_mul-area c = omega (arith, area_most (goal.at.overflow_mul-area c).Start)
 
 pub loop-c-init : goal.loop-c-init
-loop-c-init c = (omega arith, sym (sum_none _), omega arith)
+loop-c-init c = (sym (sum_none _), omega arith)
 
 -- in a turn: the plane of map channel c is one of at most 4,096, and its run ends within the kernel
 module _ (c : In-loop-c) where
@@ -52,8 +52,8 @@ overflow_add-from c = omega (arith, plane_small (goal.at.overflow_add-from c).In
 pub overflow_mul-from-in-loop-c : goal.overflow_mul-from-in-loop-c
 overflow_mul-from-in-loop-c c = omega (arith, run_ends (goal.at.overflow_mul-from-in-loop-c c).In-loop-c)
 
-pub overflow_add-to : goal.overflow_add-to
-overflow_add-to c = omega (arith, run_ends (goal.at.overflow_add-to c).In-loop-c)
+pub overflow_add-plane : goal.overflow_add-plane
+overflow_add-plane c = omega (arith, run_ends (goal.at.overflow_add-plane c).In-loop-c)
 
 pub offset_bounds-kernel-from : goal.offset_bounds-kernel-from
 offset_bounds-kernel-from c = omega (arith, run_ends (goal.at.offset_bounds-kernel-from c).In-loop-c)
@@ -74,10 +74,10 @@ loop-c-preserved c =
     c.plane_sum-total.ensures.0 ∙ plane_group a.layer.side a.kernel.now (plane turn) a.group (run_ends turn)
     ∙ ap (group_in a.layer a.kernel.now a.group) (plane_is turn)
     in
-    (omega arith, rw (add-one, sum_last) (ap₂ ◌+◌ c.loop-c.invariant.1 summed), omega arith)
+    (rw (add-one, sum_last) (ap₂ ◌+◌ c.loop-c.invariant.0 summed), omega arith)
 
 pub returns : goal.returns
 unfolding group_total
 returns c =
     let done : c.loop-c.c ≡ c.args.layer.inputs = omega arith in
-    record { value = rw (c.loop-c.invariant.1, done); upper_bound = omega arith }
+    record { value = rw (c.loop-c.invariant.0, done); upper_bound = omega arith }

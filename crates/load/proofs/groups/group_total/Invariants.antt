@@ -1,7 +1,7 @@
 -- `group_total` adds plane after plane: the sum so far is that of the map channels before c. It rests on the laws of planes.
 use mathlib.Core.Path.{◌≡◌}
 use mathlib.Core.List.{List}
-use Prim.Native.Nat.{ℕ, ◌*◌, ◌-◌, ◌≤◌}
+use Prim.Native.Nat.{ℕ, ◌*◌, ◌≤◌}
 use lib.IntN.{ℤ, nat_abs}
 use Rattle.algebra.specs.Planes.{cell}
 use Rattle.algebra.specs.Sum.{sum}
@@ -20,7 +20,4 @@ plane_total l kernel m g c = group_in l kernel g (plane_of l m c)
 
 abbrev pub invariant-loop-c : goal.invariant-loop-c
 invariant-loop-c l =
-    (l.c ≤ l.layer.inputs) × (l.total ≡ sum l.c (λ i. plane_total l.layer l.kernel l.m l.group i)) × (l.total ≤ 121 * 32768 * l.c)
-
-abbrev pub decreases-loop-c : goal.decreases-loop-c
-decreases-loop-c l = l.layer.inputs - l.c
+    (l.total ≡ sum l.c (λ i. plane_total l.layer l.kernel l.m l.group i)) × (l.total ≤ 121 * 32768 * l.c)

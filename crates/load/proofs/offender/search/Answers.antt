@@ -15,7 +15,7 @@ use Rattle.load.proofs.offender.search.Goals.{After-side_of-side, In-loop-column
 -- a turn of the innermost loop: the place that is read is one of the map
 module _ (c : In-loop-column) where
   here : c.loop-column.i < length c.args.map.now
-  here = place_in c.channels-test.true c.loop-row-test.true c.loop-column-test.true c.requires c.loop-column.invariant.1
+  here = place_in c.channels-test.true c.loop-row-test.true c.loop-column-test.true c.requires c.loop-column.invariant
 
 -- its value, that its bits say it, and its side
 module _ (c : After-side_of-side) where
@@ -29,13 +29,13 @@ module _ (c : After-side_of-side) where
   side_is = c.side_of-side.ensures ∙ ap (side_of c.args.layer.peak) bits
 
 pub channels-init : goal.channels-init
-channels-init c = (omega arith, none_searched c.none-found.ensures)
+channels-init c = none_searched c.none-found.ensures
 
 pub loop-row-init : goal.loop-row-init
-loop-row-init c = (omega arith, c.channels.invariant.1)
+loop-row-init c = c.channels.invariant
 
 pub loop-column-init : goal.loop-column-init
-loop-column-init c = (omega arith, c.loop-row.invariant.1)
+loop-column-init c = c.loop-row.invariant
 
 pub bounds-map-i : goal.bounds-map-i
 bounds-map-i c = here c
@@ -44,20 +44,20 @@ pub overflow_add-i : goal.overflow_add-i
 overflow_add-i c = omega (arith, here (goal.at.overflow_add-i c).In-loop-column)
 
 pub loop-column-preserved : goal.loop-column-preserved
-loop-column-preserved c = (omega arith, value_searched c.loop-column.invariant.1 (sym (side_is (goal.at.loop-column-preserved c).After-side_of-side) ∙ c.if-side-ne0.false))
+loop-column-preserved c = value_searched c.loop-column.invariant (sym (side_is (goal.at.loop-column-preserved c).After-side_of-side) ∙ c.if-side-ne0.false)
 
 pub loop-row-preserved : goal.loop-row-preserved
-loop-row-preserved c = let at = c.loop-column in (omega arith, row_searched (omega (arith, at.invariant.0)) at.invariant.1)
+loop-row-preserved c = row_searched (omega arith) c.loop-column.invariant
 
 pub channels-preserved : goal.channels-preserved
-channels-preserved c = let at = c.loop-row in (omega arith, channel_searched (omega (arith, at.invariant.0)) at.invariant.1)
+channels-preserved c = channel_searched (omega arith) c.loop-row.invariant
 
 -- all channels are passed
 pub returns-after-channels : goal.returns-after-channels
 returns-after-channels c =
-    all_searched (omega (arith, c.channels.invariant.0)) c.requires c.channels.invariant.1
+    all_searched (omega arith) c.requires c.channels.invariant
 
 -- a value is found
 pub returns-then-side-ne0 : goal.returns-then-side-ne0
 returns-then-side-ne0 c =
-    value_found c.loop-row-test.true c.loop-column-test.true (here (goal.at.returns-then-side-ne0 c).In-loop-column) c.loop-column.invariant.1 (side_is (goal.at.returns-then-side-ne0 c).After-side_of-side) c.if-side-ne0.true
+    value_found c.loop-row-test.true c.loop-column-test.true (here (goal.at.returns-then-side-ne0 c).In-loop-column) c.loop-column.invariant (side_is (goal.at.returns-then-side-ne0 c).After-side_of-side) c.if-side-ne0.true
