@@ -8,21 +8,22 @@ use native.Mathlib.Omega.{arith}
 use lib.Arith.{digits_lt}
 use lib.IntN.{ℤ, pos, nat_abs}
 use lib.ListN.{length, get_or}
+use Rattle.std.specs.Prelude.{Option, None, unwrap_or}
 use Rattle.layer.specs.declared.shape.Layer.{Layer}
 use Rattle.layer.specs.Shape.{map_count}
 use Rattle.load.specs.declared.offender.Offender.{Offender}
 use Rattle.load.specs.Offender.{side_of, no_offender, offender_of, stored}
 use Rattle.load.specs.OffenderLaws.{First, side_none, side_within, offender_none, offender_at_lem, none_beyond}
 
-module _ (l : Layer) (map : List ℤ) (found : Offender) where
+module _ (l : Layer) (map : List ℤ) (found : Option Offender) where
   -- at a channel, row and column, which is place i: nothing is found, and the values before are within the peak
   pub record Searched (channel row column i : ℕ) : Type 0 where
     pub place : i ≡ stored l channel row column
-    pub none : found ≡ no_offender
+    pub none : found ≡ None
     pub within : (q : ℕ) → q < i → nat_abs (get_or map q (pos 0)) ≤ l.peak
 
-module _ {l : Layer} {map : List ℤ} {found : Offender} where
-  pub none_searched : found ≡ no_offender → Searched l map found 0 0 0 0
+module _ {l : Layer} {map : List ℤ} {found : Option Offender} where
+  pub none_searched : found ≡ None → Searched l map found 0 0 0 0
   none_searched e = record { place = omega arith; none = e; within = λ q h. absurd (omega arith) }
 
   -- one value more, whose side is 0
@@ -43,10 +44,10 @@ module _ {l : Layer} {map : List ℤ} {found : Offender} where
   channel_searched e searched = record { place = searched.place ∙ rw e (omega arith); none = searched.none; within = searched.within }
 
   -- all channels are passed
-  pub all_searched : {channel i : ℕ} → channel ≡ l.inputs → length map ≡ map_count l → Searched l map found channel 0 0 i → found ≡ offender_of l map
+  pub all_searched : {channel i : ℕ} → channel ≡ l.inputs → length map ≡ map_count l → Searched l map found channel 0 0 i → unwrap_or found no_offender ≡ offender_of l map
   all_searched e count searched =
       let all : length map ≡ _ = count ∙ rw (← e) (omega arith) ∙ sym searched.place in
-      searched.none ∙ sym (offender_none l map (none_beyond l.peak map (λ q h. searched.within q (omega (arith, all)))))
+      ap (λ (o : Option Offender). unwrap_or o no_offender) searched.none ∙ sym (offender_none l map (none_beyond l.peak map (λ q h. searched.within q (omega (arith, all)))))
 
   -- a place of the map
   pub place_in : {channel row column i : ℕ} → channel < l.inputs → row < l.height → column < l.width → length map ≡ map_count l

@@ -1,14 +1,22 @@
 -- 02, E11: the first map value beyond the peak in stored order, which is channel, then row, then column: its place and its side.
-use Rattle.std.specs.Prelude.{◌≡◌, cond, List, [], ◌∷◌, ℕ, suc, ◌+◌, ◌*◌, ◌≤◌, ◌<◌, leb, ℤ, pos, negsuc, nat_abs}
+use Rattle.std.specs.Prelude.{◌≡◌, cond, List, [], ◌∷◌, ℕ, suc, ◌+◌, ◌*◌, ◌≤◌, ◌<◌, leb, ℤ, pos, negsuc, nat_abs, Option, None, Some}
 use Rattle.algebra.specs.Planes.{cell, stacked_at}
 use Rattle.layer.specs.declared.shape.Layer.{Layer}
 use Rattle.load.specs.declared.offender.Offender.{Offender}
+use Rattle.load.specs.declared.offender.Side.{Side}
+use Rattle.load.specs.declared.offender.Side.TheVariants.{Above, Below}
 use Rattle.load.specs.Load.{within_peak}
 
 -- the side of a value: 1 above A, 2 below −A, 0 within
 abbrev pub side_of : (peak : ℕ) → ℤ → ℕ
 side_of peak (pos n) = cond (leb n peak) 0 1
 side_of peak (negsuc n) = cond (leb (suc n) peak) 0 2
+
+-- the number that an offender tells of a side, 0 where there is none
+abbrev pub side_number : Option Side → ℕ
+side_number None = 0
+side_number (Some Above) = 1
+side_number (Some Below) = 2
 
 -- how many values stand before the first one whose size is beyond A
 unfoldable pub first_beyond : (peak : ℕ) → List ℤ → ℕ

@@ -1,6 +1,6 @@
 -- What the definition of the first value beyond the peak says (`offends`), and that the place which holds it is the one told (`offender_at_lem`). It rests
 -- on the laws of planes.
-use Rattle.std.specs.Prelude.{◌≡◌, Bool, cond, ◌⊎◌, ℤ, pos, negsuc, nat_abs, length, get_or}
+use Rattle.std.specs.Prelude.{◌≡◌, Bool, cond, ◌⊎◌, ℤ, pos, negsuc, nat_abs, length, get_or, Some}
 use Rattle.std.proofs.Math.Path.{refl}
 use Rattle.std.proofs.Math.Bool.{true, false}
 use Rattle.std.proofs.Common.{true≢false, inl, inr, ⊎_elim, div-lt_iff_lt-mul, div-add-mod', arith}
@@ -14,10 +14,17 @@ use Rattle.std.specs.Int.Signed.{lt_z}
 use Rattle.algebra.specs.PlanesLaws.{stacked_at_lem}
 use Rattle.layer.specs.declared.shape.Layer.{Layer}
 use Rattle.layer.specs.Shape.{map_count}
+use Rattle.load.specs.declared.offender.Side.{Side}
+use Rattle.load.specs.declared.offender.Side.TheVariants.{Above, Below}
 use Rattle.load.specs.Load.{within_peak}
-use Rattle.load.specs.Offender.{side_of, first_beyond, no_offender, offender_at, offender_of, stored, Offends}
+use Rattle.load.specs.Offender.{side_of, side_number, first_beyond, no_offender, offender_at, offender_of, stored, Offends}
 
 -- ---- the side of a value
+
+-- a side has a number above that of no side
+pub side_above : (side : Side) → 0 < side_number (Some side)
+side_above Above = omega arith
+side_above Below = omega arith
 
 module _ (peak : ℕ) where
   -- a value beyond the peak has the side of its sign: 2 below 0, else 1
