@@ -1,4 +1,3 @@
 pub mod NearestLaws
 pub mod LevelLaws
 pub mod LevelCases
-mod Mapping

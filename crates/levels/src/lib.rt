@@ -3,23 +3,25 @@
 #![tactic(auto)]
 
 ghost use Rattle.std.specs.Prelude.{◌≡◌, ◌≤◌, length};
+ghost use Rattle.base.specs.Refusals.{code_of};
 ghost use Rattle.levels.specs.Answer.{levels_code, levels_of, levels_left};
 
-use base::rules;
+use base::rules::{Refusal, code_of, require};
 
 mod value;
 
-// The number 20 where a rule is broken, or 0: the shift, then the bound B, then the room for as many levels as outputs.
-fn levels_code(shift: usize, bound: usize, count: usize, room: usize) -> usize
-    ensures { result ≡ levels_code shift bound count room }
+// The rules of a call: the shift, then the bound B, then the room for as many levels as outputs.
+#[tactic(auto, unfolding(base::specs::Refusals::required, base::specs::Rules::inside, crate::specs::Answer::levels_code))]
+fn check_levels(shift: usize, bound: usize, count: usize, room: usize) -> Result<(), Refusal>
+    ensures { code_of result ≡ levels_code shift bound count room }
 {
-    let code = rules::next(0, 20, rules::is_inside(0, 31, shift));
-    let code = rules::next(code, 20, rules::is_inside(1, 32767, bound));
-    rules::next(code, 20, room == count)
+    require(Refusal::Levels, shift <= 31)?;
+    require(Refusal::Levels, (1..=32767).contains(&bound))?;
+    require(Refusal::Levels, room == count)
 }
 
 // Writes the level of each output. No turn depends on another, and every `if` only chooses between two numbers, so that the loop is
-// compiled to many values at a time.
+// compiled to many values at a time. The outputs go by index: of what is written through a `zip` of both, a proof knows nothing.
 fn write_levels(shift: usize, bound: usize, outputs: &[i32], levels: &mut [i16])
     requires { (shift ≤ 31) × (bound ≤ 32767) × (length levels.old ≡ length outputs.now) }
     ensures { levels.new ≡ levels_of shift bound outputs.now }
@@ -27,11 +29,8 @@ fn write_levels(shift: usize, bound: usize, outputs: &[i32], levels: &mut [i16])
     let bits = shift as u32;
     let most = bound as u32;
     let rounding = (1 << bits) / 2;
-    let mut i = 0;
-    while i < outputs.len() {
-        let level = value::level_of(outputs[i], bits, rounding, most);
-        levels[i] = level;
-        i += 1;
+    for (i, level) in levels.iter_mut().enumerate() {
+        *level = value::level_of(outputs[i], bits, rounding, most);
     }
 }
 
@@ -40,10 +39,9 @@ pub fn levels(shift: usize, bound: usize, outputs: &[i32], levels: &mut [i16]) -
     ensures value { result ≡ levels_code shift bound (length outputs.now) (length levels.old) }
     ensures levels_after { levels.new ≡ levels_left shift bound outputs.now levels.old }
 {
-    let code = levels_code(shift, bound, outputs.len(), levels.len());
-    if code != 0 {
-        return code;
+    let checked = check_levels(shift, bound, outputs.len(), levels.len());
+    if checked.is_ok() {
+        write_levels(shift, bound, outputs, levels);
     }
-    write_levels(shift, bound, outputs, levels);
-    0
+    code_of(checked)
 }

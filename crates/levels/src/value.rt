@@ -3,9 +3,7 @@ ghost use Rattle.std.specs.Prelude.{◌≡◌, cond, ◌/◌, ◌^◌, ◌≤◌
 ghost use Rattle.std.specs.Int.Signed.{lt_z};
 ghost use Rattle.levels.specs.Level.{level};
 
-use base::number;
-
-// −1 where the value is below 0, else 1.
+// −1 where the value is below 0, else 1. `signum` has a third case, 0, that would be chosen between for every value.
 fn sign(value: i32) -> i16
     ensures { result ≡ cond (lt_z value (pos 0)) (negsuc 0) (pos 1) }
 {
@@ -18,7 +16,7 @@ pub(crate) fn level_of(value: i32, bits: u32, rounding: u32, most: u32) -> i16
     requires { (bits ≤ 31) × (rounding ≡ 2 ^ bits / 2) × (most ≤ 32767) }
     ensures { result ≡ level bits most value }
 {
-    let nearest = (number::size(value) + rounding) >> bits;
-    let clamped = if nearest < most { nearest } else { most };
+    let nearest = (value.unsigned_abs() + rounding) >> bits;
+    let clamped = nearest.min(most);
     clamped as i16 * sign(value)
 }
