@@ -5,7 +5,8 @@ ghost use Rattle.joined.specs.Products.{plane_of, row_of, place_of};
 
 use layer::shape::Layer;
 
-// A plane of a kernel, or a row of a plane: the flat place of its first weight, and the kernel's side.
+// A plane of a kernel, or a row of a plane: the flat place of its first weight, and the kernel's side. No slice stands in its place: the definitions
+// of specs/Products name the weights by their places in the whole kernel.
 #[derive(Clone, Copy)]
 pub struct Part {
     pub start: usize,
@@ -51,11 +52,9 @@ pub(crate) fn plane_of(side: usize, k: usize) -> Part
     requires { (side ≤ 11) × (k ≤ 4096) }
     ensures { result ≡ plane_of side k }
 {
-    let area = side * side;
-    let start = k * area;
     Part {
-        start: start,
-        side: side,
+        start: k * (side * side),
+        side,
     }
 }
 
@@ -78,14 +77,10 @@ pub(crate) fn place_of(inputs: usize, side: usize, p: usize) -> Place
     let area = side * side;
     let plane = p / area;
     let place = p % area;
-    let output = plane / inputs;
-    let input = plane % inputs;
-    let row = place / side;
-    let column = place % side;
     Place {
-        output: output,
-        input: input,
-        row: row,
-        column: column,
+        output: plane / inputs,
+        input: plane % inputs,
+        row: place / side,
+        column: place % side,
     }
 }

@@ -1,5 +1,6 @@
 // The products of a row and of a plane of both kernels, summed. A product of two weights is at most 2^30 in size, so that 64 bits hold all sums.
-ghost use Rattle.std.specs.Prelude.{◌≡◌, ◌+◌, ◌*◌, ◌-◌, ◌^◌, ◌<◌, ◌≤◌, min, nat_abs, ◌*ℤ◌, length};
+ghost use Rattle.std.specs.Prelude.{◌≡◌, ℕ, ◌+◌, ◌*◌, ◌-◌, ◌^◌, ◌<◌, ◌≤◌, min, nat_abs, ◌*ℤ◌, length};
+ghost use Rattle.joined.specs.Terms.{Gives, TotalOf};
 ghost use Rattle.joined.specs.Products.{row_sum, plane_sum, PlanesHeld};
 
 use crate::places::{Part, row_of};
@@ -11,19 +12,17 @@ fn times(x: i16, y: i16) -> i64
     x as i64 * y as i64
 }
 
-// The places j of one kernel with b − j a place of the other run from here on: b + 1 less the other's side, or 0.
-fn first_met(b: usize, other: usize) -> usize
-    requires { 1 ≤ other }
-    ensures { result ≡ b + 1 - other }
+// The sum of the terms at the places from `from` up to `to`.
+pub(crate) fn total<F: Fn(usize) -> i64>(from: usize, to: usize, term: F) -> i64
+    requires called { (j : ℕ) → from ≤ j → j < to → F.pre term j }
+    requires small { (from ≤ to) × (to ≤ 64) × Gives (F.post term) from to (λ j value. nat_abs value ≤ 121 * 2 ^ 30) }
+    ensures { TotalOf (F.post term) from to result }
 {
-    if b < other { 0 } else { b - other + 1 }
-}
-
-// They end before this one: b + 1, or the side.
-fn end_met(b: usize, side: usize) -> usize
-    ensures { result ≡ min (b + 1) side }
-{
-    if b < side { b + 1 } else { side }
+    let mut sum: i64 = 0;
+    for j in from..to {
+        sum += term(j);
+    }
+    sum
 }
 
 // The sum over the places j of a row, of weight j times weight b − j of the other row: up to 11 products.
@@ -32,17 +31,13 @@ fn row_sum(first: &[i16], row: Part, second: &[i16], other: Part, b: usize) -> i
     requires side_bound { (row.side ≤ 11) × (1 ≤ other.side) × (b < row.side + other.side) }
     ensures { (result ≡ row_sum first.now row second.now other b) × (nat_abs result ≤ 11 * 2 ^ 30) }
 {
-    let end = end_met(b, row.side);
-    let mut total: i64 = 0;
-    let mut j = first_met(b, other.side);
-    while j < end {
-        let value = first[row.start + j];
-        let rest = b - j;
-        let weight = second[other.start + rest];
-        total += times(value, weight);
-        j += 1;
-    }
-    total
+    let from = (b + 1).saturating_sub(other.side);
+    let to = (b + 1).min(row.side);
+    total(
+        from,
+        to,
+        |j| times(first[row.start + j], second[other.start + (b - j)]),
+    )
 }
 
 // The sum over the rows i of a plane, with row a − i of the other plane: up to 11 rows.
@@ -58,14 +53,11 @@ pub(crate) fn plane_sum(
     requires a_bound { (a < plane.side + other.side) × (b < plane.side + other.side) }
     ensures { (result ≡ plane_sum first.now plane second.now other a b) × (nat_abs result ≤ 121 * 2 ^ 30) }
 {
-    let end = end_met(a, plane.side);
-    let mut total: i64 = 0;
-    let mut i = first_met(a, other.side);
-    while i < end {
-        let row = row_of(plane, i);
-        let met = row_of(other, a - i);
-        total += row_sum(first, row, second, met, b);
-        i += 1;
-    }
-    total
+    let from = (a + 1).saturating_sub(other.side);
+    let to = (a + 1).min(plane.side);
+    total(
+        from,
+        to,
+        |i| row_sum(first, row_of(plane, i), second, row_of(other, a - i), b),
+    )
 }

@@ -6,7 +6,7 @@ ghost use Rattle.joined.specs.Joined.{joined_layer, joined_at};
 ghost use Rattle.joined.specs.Products.{middle_sum};
 
 use crate::places::{Place, joined_layer, place_of, plane_of};
-use crate::sums::plane_sum;
+use crate::sums::{plane_sum, total};
 use layer::shape::Layer;
 
 // What goes through the middle channel n.
@@ -52,11 +52,9 @@ pub fn weight_at(
 {
     let joined = joined_layer(first, second);
     let place = place_of(joined.inputs, joined.side, p);
-    let mut total: i64 = 0;
-    let mut n = 0;
-    while n < first.outputs {
-        total += middle_sum(first, first_kernel, second, second_kernel, place, n);
-        n += 1;
-    }
-    total
+    total(
+        0,
+        first.outputs,
+        |n| middle_sum(first, first_kernel, second, second_kernel, place, n),
+    )
 }

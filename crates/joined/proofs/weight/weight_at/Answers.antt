@@ -1,12 +1,10 @@
-use mathlib.Core.Path.{◌≡◌, ◌∙◌}
-use Prim.Native.Nat.{ℕ, ◌+◌, ◌*◌, ◌-◌, ◌/◌, ◌%◌, ◌<◌, ◌≤◌}
-use native.Mathlib.Nat.{mod-lt, div-lt_iff_lt-mul, mul-le-mul}
-use native.Mathlib.Omega.{arith}
+-- The total is over the middle channels; the place is that of p.
+use Rattle.std.proofs.Common.{◌≡◌, ◌∙◌, ℕ, ◌+◌, ◌*◌, ◌-◌, ◌/◌, ◌%◌, ◌^◌, ◌<◌, ◌≤◌, mod-lt, div-lt_iff_lt-mul, mul-le-mul, arith, to_z-of_z, w64, rules}
+use borrow.Author.Rules.{sfits_of}
 use Rattle.algebra.specs.SumLaws.{integers, sum_cong}
 use Rattle.joined.specs.Joined.{joined_weight, joined_at}
 use Rattle.joined.specs.Products.{place_of, middle_sum}
 use Rattle.joined.specs.ProductsLaws.{plane_is}
-use Rattle.joined.proofs.Totals.{total_from, total_fits, total_next}
 use Rattle.joined.proofs.weight.weight_at.Goals as goal
 use Rattle.joined.proofs.weight.weight_at.Goals.{After-place_of-place, Start}
 
@@ -35,9 +33,6 @@ placed_at : (c : After-place_of-place) →
     c.place_of-place.result ≡ place_of c.args.first.inputs (joined-side c.before.before) c.args.p
 placed_at c = rw c.joined_layer-joined.ensures at c.place_of-place.ensures
 
-pub loop-n-init : goal.loop-n-init
-loop-n-init c = (omega arith, total_from 0 (λ i l. absurd (omega arith)))
-
 -- and its channels are in range
 input_inside : (c : After-place_of-place) → c.place_of-place.result.input < c.args.first.inputs
 input_inside c = rw (placed_at c) (mod-lt _ c.requires.0.first_kept.inputs_low)
@@ -61,35 +56,23 @@ column_inside c =
     let column : c.args.p % (side * side) % side < side = mod-lt _ (side_low c.before.before) in
     rw (placed_at c) (omega (arith, column))
 
-pub middle_sum-total-requires : goal.middle_sum-total-requires
-middle_sum-total-requires c =
-    let at = (goal.at.middle_sum-total-requires c).After-place_of-place in
-    record {
-      joinable = c.requires.0;
-      input_lt_inputs = (input_inside at, output_inside at, c.loop-n-test.true);
-      row_bound = (row_inside at, column_inside at);
-    }
-
-pub overflow_add-total : goal.overflow_add-total
-overflow_add-total c =
-    let (is, small) = c.middle_sum-total.ensures in
-    let few = c.requires.0.first_kept.outputs_high in
-    total_fits c.loop-n.invariant.1 c.middle_sum-total.result is small (omega (arith, few))
-
-pub loop-n-preserved : goal.loop-n-preserved
-loop-n-preserved c =
-    let (is, small) = c.middle_sum-total.ensures in
-    let few = c.requires.0.first_kept.outputs_high in
-    (omega arith, total_next c.loop-n.invariant.1 c.middle_sum-total.result is small (omega (arith, few)))
+pub total-requires-clause-called : goal.total-requires-clause-called
+total-requires-clause-called c =
+    let at = (goal.at.total-requires-clause-called c).After-place_of-place in
+    let input = input_inside at in
+    let output = output_inside at in
+    let row = row_inside at in
+    let column = column_inside at in
+    λ n low below. search rules
 
 pub returns : goal.returns
 unfolding joined_at joined_weight middle_sum
 returns c =
-    let loop = c.loop-n in
     let a = c.args in
-    let total = loop.invariant.1 in
-    let last : loop.n ≡ a.first.outputs = omega arith in
-    let made = rw (last, placed_at (goal.at.returns c).After-place_of-place) at total.is in (
-      made ∙ sum_cong integers a.first.outputs _ _ (λ n _. plane_is a.first.side a.second.side _ _ _ _ _ _),
-      omega (arith, total.small, c.requires.0.first_kept.outputs_high),
+    let term = middle_sum a.first a.first_kernel.now a.second a.second_kernel.now c.place_of-place.result in
+    let placed = placed_at (goal.at.returns c).After-place_of-place in
+    let given = c.total.ensures.is term (λ n value l k p. search rules) (λ n l. absurd (omega arith)) in
+    rw (to_z-of_z {w = w64} {z = c.total.result} (sfits_of c.total.type_inv)) (
+      (rw placed at given) ∙ sum_cong integers a.first.outputs _ _ (λ n _. plane_is a.first.side a.second.side _ _ _ _ _ _),
+      omega (arith, c.total.ensures.small (121 * 2 ^ 30) (λ n value l k p. search rules)),
     )
