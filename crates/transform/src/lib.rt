@@ -2,78 +2,86 @@
 #![tactic(auto)]
 
 ghost use Rattle.std.specs.Prelude.{◌≡◌};
+ghost use Rattle.base.specs.Refusals.{code_of};
 ghost use Rattle.fermat.specs.Transform.{transform_in, inverse_in};
-ghost use Rattle.transform.specs.Answer.{transform_code, transformed, inverted, row, Accepted};
+ghost use Rattle.transform.specs.Answer.{Operation, transform_code, answered, transformed, inverted, row, Accepted};
 
-use base::rules;
+use base::rules::{Refusal, code_of, require};
 use fermat::field;
-use passes::order;
+use passes::{Forward, Inverse, Residues, order};
 
 mod residues;
 
-// The first of the rules 2, 18 and 19 that is broken, or 0.
-fn transform_code(field: usize, words: &[u64]) -> usize
-    ensures { result ≡ transform_code field words.now }
+// The rules 2, 18 and 19.
+fn check(field: usize, words: &[u64]) -> Result<(), Refusal>
+    ensures { code_of result ≡ transform_code field words.now }
 {
-    let code = rules::next(0, 2, rules::is_inside(4, 5, field));
-    if code != 0 {
-        return code;
-    }
-    let code = rules::next(0, 18, words.len() == field::transform_length(field));
-    if code != 0 {
-        return code;
-    }
-    rules::next(0, 19, residues::all_below(words, field::modulus_of(field)))
+    require(Refusal::Field, (4..=5).contains(&field))?;
+    require(
+        Refusal::WordCount,
+        words.len() == field::transform_length(field),
+    )?;
+    require(
+        Refusal::Residues,
+        residues::all_below(words, field::modulus_of(field)),
+    )
 }
 
-// The transform of accepted words: in passes, then from bit-reversed order to order, then to residues.
-fn transform_row(field: usize, words: &mut [u64])
-    requires { Accepted field words.old }
-    ensures { words.new ≡ row transform_in field words.old }
-{
-    let n = words.len();
-    let halvings = field::halvings_of(field);
-    let m = field::modulus_of(field);
-    passes::forward(words, n, n, 1, 1, field::bits_of(field), 2 * m);
-    order::reorder(words, halvings);
-    residues::scale(words, 1, m);
+// A transform of a row of N residues.
+trait RowTransform {
+    ghost operation: { Operation };
+
+    // It takes the place of the accepted words.
+    fn replace(field: usize, words: &mut [u64])
+        requires { Accepted field words.old }
+        ensures { words.new ≡ row operation field words.old };
 }
 
-// The inverse of accepted words: the same steps backwards, and the division by N.
-fn inverse_row(field: usize, words: &mut [u64])
-    requires { Accepted field words.old }
-    ensures { words.new ≡ row inverse_in field words.old }
+// In passes, then from bit-reversed order to order, then to residues.
+impl RowTransform for Forward {
+    ghost operation = { transform_in };
+
+    fn replace(field: usize, words: &mut [u64]) {
+        let n = words.len();
+        passes::forward(words, n, n, 1, 1, Residues::of_field(field));
+        order::reorder(words, field::halvings_of(field));
+        residues::scale(words, 1, field::modulus_of(field));
+    }
+}
+
+// The same steps backwards, and the division by N.
+impl RowTransform for Inverse {
+    ghost operation = { inverse_in };
+
+    fn replace(field: usize, words: &mut [u64]) {
+        let n = words.len();
+        order::reorder(words, field::halvings_of(field));
+        passes::inverse(words, n, 1, 1, Residues::of_field(field));
+        residues::scale(words, field::scale_of(field), field::modulus_of(field));
+    }
+}
+
+// Refused words are left as they were.
+fn checked<T: RowTransform>(field: usize, words: &mut [u64]) -> Result<(), Refusal>
+    ensures { (code_of result ≡ transform_code field words.old) × (words.new ≡ answered T.operation field words.old) }
 {
-    let n = words.len();
-    let halvings = field::halvings_of(field);
-    let m = field::modulus_of(field);
-    order::reorder(words, halvings);
-    passes::inverse(words, n, 1, 1, field::bits_of(field), 2 * m);
-    residues::scale(words, field::scale_of(field), m);
+    check(field, words)?;
+    T::replace(field, words);
+    Ok(())
 }
 
 // The transform in the field of that number, 4 or 5, of N residues. Refused words are left as they were.
 pub fn transform(field: usize, words: &mut [u64]) -> usize
     ensures { (result ≡ transform_code field words.old) × (words.new ≡ transformed field words.old) }
 {
-    let code = transform_code(field, words);
-    if code != 0 {
-        return code;
-    }
-    transform_row(field, words);
-    0
+    code_of(checked::<Forward>(field, words))
 }
 
 // Its inverse.
 pub fn inverse(field: usize, words: &mut [u64]) -> usize
     ensures { (result ≡ transform_code field words.old) × (words.new ≡ inverted field words.old) }
 {
-    let code = transform_code(field, words);
-    if code != 0 {
-        return code;
-    }
-    inverse_row(field, words);
-    0
+    code_of(checked::<Inverse>(field, words))
 }
 
 // The transform, then its inverse: the words come back.

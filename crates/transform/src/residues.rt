@@ -1,4 +1,4 @@
-// Loops over words: whether all are residues, and each one times a number, reduced.
+// Words of a row: whether all are residues, and each one times a number, reduced.
 ghost use Rattle.std.specs.Prelude.{◌≡◌, ℕ, ◌*◌, ◌%◌, ◌<◌, ◌≤◌, length, get_or};
 ghost use Rattle.transform.specs.Answer.{all_below};
 
@@ -6,14 +6,7 @@ ghost use Rattle.transform.specs.Answer.{all_below};
 pub(crate) fn all_below(words: &[u64], m: u64) -> bool
     ensures { result ≡ all_below m words.now }
 {
-    let mut i = 0;
-    while i < words.len() {
-        if words[i] >= m {
-            return false;
-        }
-        i += 1;
-    }
-    true
+    words.iter().all(|word| *word < m)
 }
 
 // Each word is multiplied by s and becomes its remainder by m. The product of s and a remainder fits a word.
@@ -21,9 +14,7 @@ pub(crate) fn scale(words: &mut [u64], s: u64, m: u64)
     requires { (0 < m) × (m ≤ 4294967297) × (s < 4294967296) }
     ensures { (i : ℕ) → i < length words.old → get_or words.new i 0 ≡ (s * get_or words.old i 0) % m }
 {
-    let mut i = 0;
-    while i < words.len() {
-        words[i] = (s * (words[i] % m)) % m;
-        i += 1;
+    for word in words.iter_mut() {
+        *word = (s * (*word % m)) % m;
     }
 }

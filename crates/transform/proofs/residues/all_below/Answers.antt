@@ -1,32 +1,22 @@
-use mathlib.Core.Path.{◌≡◌, sym, ap, ◌∙◌}
-use mathlib.Core.Bool.{false}
-use mathlib.Core.List.{List}
-use Prim.Native.Nat.{ℕ, ◌+◌, ◌<◌, ◌≤◌}
-use native.Mathlib.Numerals.{add-one}
-use native.Mathlib.Omega.{arith}
-use borrow.Author.Tests.{lt-ltb, le-ltb}
-use lib.ListN.{length, get_or, drop, drop_of_length-le}
-use lib.Seq.{drop-cons}
+-- `all` answers what `all_below` does, word after word.
+use mathlib.Core.Path.{◌≡◌, refl, ap, ◌∙◌}
+use mathlib.Core.List.{List, [], ◌∷◌}
+use mathlib.Core.Bool.{◌&&◌}
+use Prim.Native.Nat.{ℕ}
+use lib.Dec.{ltb}
+use borrow.Author.Rules.{rules}
+use borrow.Author.Tests.{tests}
+use Rattle.std.specs.List.{list_all}
+use Rattle.std.proofs.lemmas.Iterator.{YieldsList-from_slice}
+use Rattle.std.proofs.lemmas.Iterator.Search.{all_from_yields_List}
 use Rattle.transform.specs.Answer.{all_below}
 use Rattle.transform.proofs.residues.all_below.Goals as goal
 
--- the word at i is not below m, or it is and the words after it decide
-module _ (m : ℕ) (words : List ℕ) (i : ℕ) (l : i < length words) where
-  stops : m ≤ get_or words i 0 → all_below m (drop i words) ≡ false
-  stops h = rw (drop-cons words i 0, le-ltb (get_or words i 0) m)
-
-  passes : get_or words i 0 < m → all_below m (drop i words) ≡ all_below m (drop (i + 1) words)
-  passes h = rw (add-one, drop-cons words i 0, lt-ltb (get_or words i 0) m)
-
-pub returns-then-words-i : goal.returns-then-words-i
-returns-then-words-i c =
-    let a = c.args in
-    sym (c.loop-i.invariant.1 ∙ stops a.m a.words.now c.loop-i.i (omega arith) (omega arith))
-
-pub loop-i-preserved : goal.loop-i-preserved
-loop-i-preserved c =
-    let a = c.args in
-    (omega arith, c.loop-i.invariant.1 ∙ passes a.m a.words.now c.loop-i.i (omega arith) (omega arith))
+each : (m : ℕ) (words : List ℕ) → list_all (λ word. ltb word m) words ≡ all_below m words
+each m [] = refl
+each m (word ∷ words) = ap (λ b. ltb word m && b) (each m words)
 
 pub returns : goal.returns
-returns c = sym (c.loop-i.invariant.1 ∙ ap (all_below _) (drop_of_length-le _ c.loop-i-test.false))
+returns c =
+    all_from_yields_List (λ word. ltb word c.args.m) _ _ _ c.all.ensures.ran (YieldsList-from_slice c.args.words.now c.iter.ensures.rest) (λ word b f called. search (rules, tests))
+    ∙ each c.args.m c.args.words.now

@@ -1,3 +1,4 @@
+-- The product of a factor and a remainder fits a word, and the remainder of the product does not depend on the word being reduced before.
 use Prim.Native.Nat.{ℕ, ◌*◌, ◌%◌, ◌<◌, ◌≤◌}
 use native.Mathlib.Nat.{mod-lt, mul-le-mul_left}
 use native.Mathlib.Omega.{arith}
@@ -13,18 +14,18 @@ fits s m x h =
     let le : s * (x % m) ≤ s * 4294967296 = mul-le-mul_left s r in
     omega arith
 
-pub loop-i-init : goal.loop-i-init
-loop-i-init c = (omega arith, words_none)
+pub loop-word-init : goal.loop-word-init
+loop-word-init c = words_none
 
-pub overflow_mul-words : goal.overflow_mul-words
-overflow_mul-words c =
-    let L = c.loop-i in
-    record { fits = fits c.args.s c.args.m (get_or L.words L.i 0) c.requires }
+pub overflow_mul-word : goal.overflow_mul-word
+overflow_mul-word c =
+    let loop = c.loop-word in
+    record { fits = fits c.args.s c.args.m (get_or loop.words loop.word-index 0) c.requires }
 
-pub loop-i-preserved : goal.loop-i-preserved
-loop-i-preserved c =
-    let L = c.loop-i in
-    (omega arith, words_next _ (omega arith) L.invariant.1 (c_mul (c_refl {a = c.args.s}) c_mod).same)
+pub loop-word-preserved : goal.loop-word-preserved
+loop-word-preserved c =
+    let loop = c.loop-word in
+    words_next _ (omega arith) loop.invariant (c_mul (c_refl {a = c.args.s}) c_mod).same
 
 pub returns : goal.returns
-returns c i l = c.loop-i.invariant.1.done i (omega arith)
+returns c i l = c.loop-word.invariant.done i (omega arith)
