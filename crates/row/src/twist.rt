@@ -7,7 +7,7 @@ ghost use Rattle.row.specs.Row.{frequency_of, Factors, Multiplied, Twisted};
 
 use crate::table::PowerTable;
 use passes::order::reverse;
-use spectrum::product::{product_4, settled_4};
+use spectrum::product::{F4, Field};
 
 // The frequency, below 16, that stands in row r or column r.
 fn frequency(r: usize) -> usize
@@ -35,7 +35,7 @@ fn times(words: &mut [u64], factors: &[u64; 16])
     ensures { Multiplied factors.now words.old words.new }
 {
     for (j, word) in words.iter_mut().enumerate() {
-        *word = settled_4(product_4(*word, factors[j]));
+        *word = F4::settled(F4::product(*word, factors[j]));
     }
 }
 

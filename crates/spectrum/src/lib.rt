@@ -11,7 +11,7 @@ ghost use Rattle.spectrum.specs.Product.{factor_most};
 
 use corner::forward_corner;
 use fermat::field::{bits_of, halvings_of, modulus_of, transform_length};
-use product::{offset_residues, settle};
+use product::{offset_residues, settle_in};
 use tile::{forward_tile, inverse_tile};
 use value::offset_of;
 
@@ -54,7 +54,7 @@ pub fn recover_tile(words: &mut [u64], field: usize)
     let halvings = halvings_of(field);
     let bits = bits_of(field);
     let bound = 4 * modulus_of(field);
-    settle(words, field);
+    settle_in(field, words);
     inverse_tile(words, n, halvings, bits, bound);
     offset_residues(words, bits, 2 * halvings, offset_of(field));
 }

@@ -10,10 +10,7 @@ pub fn word(value: i16, modulus: u64) -> u64
     requires { (32768 ≤ modulus) × (modulus ≤ 4294967297) }
     ensures { Word modulus value result }
 {
-    let wide = value as i64;
-    let all = modulus as i64;
-    let sum = wide + all;
-    sum as u64
+    (i64::from(value) + modulus as i64) as u64
 }
 
 // What the residues have added: 2^(bits − 1).

@@ -24,8 +24,8 @@ overflow_mul-bound c = omega (arith, c.modulus_of-bound.ensures, power_high c.ar
 pub inverse_tile-requires : goal.inverse_tile-requires
 inverse_tile-requires c =
     let asks =
-    inverse_asks (numbers (goal.at.inverse_tile-requires c).After-modulus_of-bound) c.settle.new.words c.requires.1 (c.settle.auto.words ∙ c.requires.2)
-    (λ i l. (c.settle.ensures i (omega (arith, c.settle.auto.words))).bound) in
+    inverse_asks (numbers (goal.at.inverse_tile-requires c).After-modulus_of-bound) c.settle_in.new.words c.requires.1 (c.settle_in.auto.words ∙ c.requires.2)
+    (λ i l. (c.settle_in.ensures i (omega (arith, c.settle_in.auto.words))).bound) in
     record { bound = asks.0; square = asks.1.0; at_most = asks.1.1 }
 
 pub offset_residues-requires : goal.offset_residues-requires
@@ -36,6 +36,6 @@ offset_residues-requires c = (
 
 pub returns : goal.returns
 returns c =
-    recovered (numbers (goal.at.returns c).After-modulus_of-bound) _ c.settle.new.words c.inverse_tile.new.words c.offset_residues.new.words c.requires.0 c.requires.1
-    c.requires.2 (c.inverse_tile.auto.words ∙ c.settle.auto.words) c.settle.ensures c.inverse_tile.ensures.tile_inverse
+    recovered (numbers (goal.at.returns c).After-modulus_of-bound) _ c.settle_in.new.words c.inverse_tile.new.words c.offset_residues.new.words c.requires.0 c.requires.1
+    c.requires.2 (c.inverse_tile.auto.words ∙ c.settle_in.auto.words) c.settle_in.ensures c.inverse_tile.ensures.tile_inverse
     c.offset_residues.ensures

@@ -6,15 +6,15 @@ use Rattle.row.proofs.twist.times.Goals as goal
 pub loop-j-init : goal.loop-j-init
 loop-j-init c = words_none
 
-pub product_4-requires : goal.product_4-requires
-product_4-requires c =
+pub product-requires : goal.product-requires
+product-requires c =
     let j = c.loop-j.j in
     (omega (arith, c.loop-j.invariant.left j (omega arith), c.requires.1 j (omega arith)), c.requires.2 j (omega arith))
 
 pub loop-j-preserved : goal.loop-j-preserved
 loop-j-preserved c =
-    let settled = c.settled_4.ensures in
-    words_next _ (omega arith) c.loop-j.invariant (record { value = settled.value ⨟ c.product_4.ensures.value; bound = settled.bound })
+    let settled = c.settled.ensures in
+    words_next _ (omega arith) c.loop-j.invariant (record { value = settled.value ⨟ c.product.ensures.value; bound = settled.bound })
 
 pub returns : goal.returns
 returns c j l = c.loop-j.invariant.done j (omega arith)

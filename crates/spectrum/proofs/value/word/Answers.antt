@@ -1,17 +1,13 @@
 -- `word` adds the modulus in 64 bits, where the sum is not below 0.
-use mathlib.Core.Path.{◌≡◌, refl}
-use Prim.Native.Nat.{ℕ, suc, ◌+◌, ◌-◌, ◌^◌, ◌<◌, ◌≤◌}
-use native.Mathlib.Omega.{arith}
+use Rattle.std.proofs.Common.{◌≡◌, refl, ℕ, suc, ◌+◌, ◌-◌, ◌^◌, ◌<◌, ◌≤◌, ℤ, pos, negsuc, ◌+ℤ◌, w16, w64, arith}
 use borrow.Author.Tests.{le-ltb}
-use lib.IntN.{ℤ, pos, negsuc, ◌+ℤ◌, pos-+ℤ-pos}
+use lib.IntN.{pos-+ℤ-pos}
 use lib.Signed.{mag}
-use mir.Syntax.{w16, w64}
-use mir.Val.{SFits, to_z, of_z}
+use mir.Val.{SFits}
 use mir.Facts.{to_z-of_z, to_z_pos, sfits_widen}
 use Rattle.algebra.specs.Integer.{difference_pos, difference_negsuc, difference_eq, ring}
 use Rattle.spectrum.specs.Value.{Word}
 use Rattle.spectrum.proofs.value.word.Goals as goal
-use Rattle.spectrum.proofs.value.word.Goals.{Start}
 
 -- z and m
 unfoldable lifted : ℕ → ℤ → ℕ
@@ -35,27 +31,18 @@ module _ (m : ℕ) (low : 32768 ≤ m) where
     bound = omega arith;
   }
 
--- what is added, and that the sum fits
-sum : (c : Start)
-    → to_z w64 (of_z w64 (to_z w16 (of_z w16 c.args.value))) +ℤ to_z w64 c.args.modulus ≡ pos (lifted c.args.modulus c.args.value)
-sum c =
-    rw (to_z-of_z c.ranges.value, to_z-of_z (sfits_widen {w = w16} {w' = w64} tt c.ranges.value), to_z_pos w64 {n = c.args.modulus} (omega arith))
-    (sum_is c.args.modulus c.requires.0 c.args.value c.ranges.value.sfits)
-
-made : (c : Start) → Word c.args.modulus c.args.value (lifted c.args.modulus c.args.value)
-made c = lifted_word c.args.modulus c.requires.0 c.args.value c.ranges.value.sfits
-
-sum_fits : (c : Start) → SFits w64 (pos (lifted c.args.modulus c.args.value))
-sum_fits c = record { sfits = omega (arith, (made c).bound) }
-
-pub overflow_cast-wide : goal.overflow_cast-wide
-overflow_cast-wide c = rw (to_z-of_z c.ranges.value) (sfits_widen tt c.ranges.value)
-
-pub overflow_add-sum : goal.overflow_add-sum
-overflow_add-sum c = rw (sum c) (sum_fits c)
-
-pub overflow_cast-result : goal.overflow_cast-result
-overflow_cast-result c = rw (sum c, to_z-of_z (sum_fits c)) (tt, record { fits = omega (arith, (made c).bound) })
-
 pub returns : goal.returns
-returns c = rw (sum c, to_z-of_z (sum_fits c)) (made c)
+returns c =
+    let m = c.args.modulus in
+    let z = c.args.value in
+    let small = c.ranges.value.sfits in
+    let made = lifted_word m c.requires.0 z small in
+    let sum_fits : SFits w64 (pos (lifted m z)) = record { sfits = omega (arith, made.bound) } in
+    rw (
+      c.from.ensures,
+      to_z-of_z c.ranges.value,
+      to_z-of_z (sfits_widen {w = w16} {w' = w64} tt c.ranges.value),
+      to_z_pos w64 {n = m} (omega arith),
+      sum_is m c.requires.0 z small,
+      to_z-of_z sum_fits,
+    ) made
