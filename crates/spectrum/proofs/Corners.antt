@@ -20,9 +20,8 @@ use Rattle.fermat.specs.TransformLaws.{c_power_sum, power_sum_zero}
 use Rattle.passes.specs.Order.{reversed}
 use Rattle.passes.specs.OrderLaws.{reversed_lt, place_lt}
 use Rattle.passes.specs.Butterfly.{AtMost}
-use Rattle.passes.specs.Halving.{word, Forward, Filled}
-use Rattle.passes.specs.Passes.{Grid}
-use Rattle.passes.specs.PartLaws.{part_length, part-word, part_most}
+use Rattle.passes.specs.Halving.{word, Forward}
+use Rattle.passes.specs.PartLaws.{part_length, part-word}
 use Rattle.spectrum.specs.Tile.{TileForward}
 use Rattle.spectrum.specs.Corner.{corner_start, corner, Cornered, Widened}
 use Rattle.spectrum.proofs.Widening.{corner-inside}
@@ -46,18 +45,6 @@ pub record Wide (n k s : ℕ) (xs ys ts : List ℕ) : Type 0 where
 module _ {n k c s : ℕ} {xs : List ℕ} (cornered : Cornered n k c xs) (part : s ≡ n * k) where
   pub corner_le : corner_start n k + s ≤ length xs
   corner_le = omega (arith, corner-inside n k cornered.small, cornered.whole)
-
-  pub corner_grid : {t b : ℕ} → Grid t n n 1 b c → Grid (length (mid_of (corner_start n k) s xs)) n k 1 b c
-  corner_grid tile = record { whole = part_length (corner_start n k) s xs corner_le ∙ part; power = tile.power; short = tile.short; period = tile.period; room = tile.room }
-
-  pub corner_most : AtMost c (mid_of (corner_start n k) s xs)
-  corner_most = part_most (corner_start n k) s xs corner_le c (λ i l. cornered.bound i (omega arith))
-
-  pub corner_filled : Filled k k (mid_of (corner_start n k) s xs)
-  corner_filled = record {
-    some = cornered.some;
-    empty = λ i lo hi. let h : i < s = omega (arith, part_length (corner_start n k) s xs corner_le) in part-word (corner_start n k) s xs corner_le i h ∙ cornered.empty i lo (omega arith);
-  }
 
   part-corner : (a b : ℕ) → a < n → b < k → word k a b (mid_of (corner_start n k) s xs) ≡ corner k (corner_start n k) xs a b
   part-corner a b la lb = part-word (corner_start n k) s xs corner_le (a * k + b) (omega (arith, here)) ∙ go (dec_lt a k)
@@ -87,9 +74,6 @@ module _ {n k c s : ℕ} {xs : List ℕ} (cornered : Cornered n k c xs) (part : 
 
     pub wide_length : length ts ≡ n * n
     wide_length = wide.whole ∙ cornered.whole
-
-    pub wide_filled : Filled k n ts
-    wide_filled = record { some = cornered.some; empty = λ i lo hi. wide_empty i lo (omega (arith, wide_length)) }
 
     pub wide_most : (e : ℕ) → AtMost e ys → AtMost e ts
     wide_most e most i l = go (dec_lt i (k * n))

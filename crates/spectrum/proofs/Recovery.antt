@@ -1,27 +1,26 @@
 -- From the transform of a tile back to the tile: the inverse undoes the transform but for the factor N², and the residues take that away.
 use mathlib.Core.Path.{◌≡◌, refl, sym, ap, ◌∙◌}
 use mathlib.Core.List.{List}
-use Prim.Native.Nat.{ℕ, suc, ◌+◌, ◌-◌, ◌*◌, ◌^◌, ◌≤◌, ◌<◌}
+use Prim.Native.Nat.{ℕ, suc, ◌+◌, ◌*◌, ◌^◌, ◌≤◌, ◌<◌}
 use native.Mathlib.Nat.{zero-add}
 use native.Mathlib.Numerals.{add-one}
 use native.Mathlib.Omega.{arith}
 use lib.ListN.{length, get_or}
 use Rattle.algebra.specs.Congruence.{Cong}
 use Rattle.algebra.specs.CongruenceLaws.{c_eq, c_refl, ◌⨟◌, c_add, c_mul}
-use Rattle.fermat.specs.Field.{modulus, transform_length}
+use Rattle.fermat.specs.Field.{modulus, transform_length, inverse_of_two}
 use Rattle.fermat.specs.Transform.{power_sum2}
 use Rattle.fermat.specs.RootLaws.{Root}
 use Rattle.fermat.specs.FieldLaws.{field_root}
 use Rattle.fermat.specs.TransformLaws.{c_power_sum2}
 use Rattle.fermat.specs.ConvolutionLaws.{c_undo2}
 use Rattle.passes.specs.Order.{reversed}
-use Rattle.passes.specs.Butterfly.{Bound, AtMost}
+use Rattle.passes.specs.Butterfly.{AtMost}
 use Rattle.passes.specs.Halving.{word}
 use Rattle.passes.specs.OrderLaws.{place_lt}
-use Rattle.spectrum.specs.Tile.{TileForward, TileInverse, Square, Spectrum, Recovered}
-use Rattle.spectrum.specs.Product.{settled_most, Settled, inverse_most, Reducible, OffsetResidue}
+use Rattle.spectrum.specs.Tile.{TileForward, TileInverse, Spectrum, Recovered}
+use Rattle.spectrum.specs.Product.{Settled, inverse_most, Reducible, OffsetResidue}
 use Rattle.spectrum.specs.SpectrumLaws.{spectrum_moved}
-use Rattle.spectrum.proofs.Sizes.{tile_bound, tile_square}
 use Rattle.spectrum.proofs.OffsetResidues.{field_reducible, field_residue}
 
 -- s is 1/N
@@ -39,34 +38,20 @@ tile_undone {m} {w} {v} {s} {t} {l} {n} {z} {xs} ys root e forward inverse r j l
     undone : (r j : ℕ) → r < 2 ^ l → j < 2 ^ l → Cong m (s * s * power_sum2 (2 ^ l) v (power_sum2 (2 ^ l) w z) r j) (z r j)
     undone = rw e (c_undo2 root z)
 
--- the numbers of the field t: the side of a tile, its halvings, the bits and the modulus
-pub record Numbers (t n l b m : ℕ) : Type 0 where
-  pub side : n ≡ transform_length t
-  pub halvings : l ≡ t + 1
-  pub bits : b ≡ 2 ^ t
-  pub field : m ≡ modulus t
-
-module _ {t n l b m : ℕ} (is : Numbers t n l b m) where
-  -- what the inverse asks of words that are brought down
-  pub inverse_asks : (xs : List ℕ) → t ≤ 5 → length xs ≡ transform_length t * transform_length t → AtMost (settled_most t) xs
-      → Bound b (4 * m) × (Square (length xs) n l b (4 * m) × AtMost (4 * m) xs)
-  inverse_asks xs high size most = rw (is.side, is.halvings, is.bits, is.field) (tile_bound t high, (tile_square t high size (omega arith), most))
-
+module _ (t : ℕ) where
   -- what the residues ask
-  pub inverse_reducible : (ys : List ℕ) → 4 ≤ t → t ≤ 5 → AtMost (4 * m * 2 ^ l * 2 ^ l) ys
-      → (i : ℕ) → i < length ys → Reducible b (2 * l) (get_or ys i 0)
-  inverse_reducible ys low high most i h =
-      let small : AtMost (inverse_most t) ys = rw (is.halvings, is.field) at most in
-      rw (is.halvings, is.bits) (field_reducible t low high _ (small i h))
+  pub inverse_reducible : (ys : List ℕ) → 4 ≤ t → t ≤ 5 → AtMost (inverse_most t) ys → (i : ℕ) → i < length ys
+      → Reducible (2 ^ t) (2 * (t + 1)) (get_or ys i 0)
+  inverse_reducible ys low high most i h = field_reducible t low high _ (most i h)
 
   -- words brought down, then inverted, then residues
   pub recovered : (xs ss ys zs : List ℕ) → 4 ≤ t → t ≤ 5 → length xs ≡ transform_length t * transform_length t → length ys ≡ length xs
-      → ((i : ℕ) → i < length xs → Settled t (get_or xs i 0) (get_or ss i 0)) → TileInverse (2 ^ b + 1) (2 ^ (b - 1) + 1) l n ss ys
-      → ((i : ℕ) → i < length ys → OffsetResidue b (2 * l) (get_or ys i 0) (get_or zs i 0)) → Recovered t xs zs
+      → ((i : ℕ) → i < length xs → Settled t (get_or xs i 0) (get_or ss i 0))
+      → TileInverse (modulus t) (inverse_of_two t) (t + 1) (transform_length t) ss ys
+      → ((i : ℕ) → i < length ys → OffsetResidue (2 ^ t) (2 * (t + 1)) (get_or ys i 0) (get_or zs i 0)) → Recovered t xs zs
   recovered xs ss ys zs low high size same settled inverse residues z forward r j lr lj =
-      field_residue t low high _ _
-      (rw (is.halvings, is.bits) at (residues (r * transform_length t + j) (omega (arith, place_lt r j lr lj))))
-      ∙ (c_add (tile_undone ys (field_root t) (add-one t) down (rw (is.side, is.halvings, is.bits) at inverse) r j lr lj) c_refl).same
+      field_residue t low high _ _ (residues (r * transform_length t + j) (omega (arith, place_lt r j lr lj)))
+      ∙ (c_add (tile_undone ys (field_root t) (add-one t) down inverse r j lr lj) c_refl).same
     where
       down : Spectrum t z 0 ss
       down = spectrum_moved refl forward (λ i l. rw (zero-add i) (settled i (omega arith)).value)

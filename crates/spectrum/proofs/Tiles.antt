@@ -1,28 +1,21 @@
--- The two transforms of a tile, of its columns and of its rows: what they make together, the sizes of each, and the bound across a transposition.
-use mathlib.Core.Path.{◌≡◌, refl, ap, ◌∙◌}
+-- The two transforms of a tile, of its columns and of its rows: what they make together.
+use mathlib.Core.Path.{◌≡◌, refl, ap}
 use mathlib.Core.List.{List}
-use Prim.Native.Nat.{ℕ, ◌+◌, ◌-◌, ◌*◌, ◌%◌, ◌^◌, ◌<◌, ◌≤◌}
-use native.Mathlib.Nat.{zero-add, one-mul, mul-one, mod-eq_of_lt, mul-le-mul_left}
+use Prim.Native.Nat.{ℕ, ◌+◌, ◌-◌, ◌*◌, ◌^◌, ◌<◌}
+use native.Mathlib.Nat.{zero-add}
 use native.Mathlib.Omega.{arith}
 use lib.ListN.{length, get_or}
-use lib.Pow.{pow_pos}
 use Rattle.algebra.specs.PowerLaws.{pow_one}
 use Rattle.algebra.specs.Congruence.{Cong}
 use Rattle.algebra.specs.CongruenceLaws.{c_eq, ◌⨟◌, c_via}
 use Rattle.fermat.specs.Transform.{power_sum, power_sum2}
 use Rattle.fermat.specs.TransformLaws.{c_power_sum, power_sum_swap}
 use Rattle.passes.specs.Order.{reversed, across, Permuted}
-use Rattle.passes.specs.Butterfly.{Bound, AtMost}
 use Rattle.passes.specs.Halving as Lanes
 use Rattle.passes.specs.Halving.{word}
-use Rattle.passes.specs.Passes.{passes, Grid, Pruned, Transformed}
-use Rattle.passes.specs.PassLaws.{passes_power}
-use Rattle.passes.specs.OrderLaws.{reversed_lt, across_lt, transposed, permuted_most}
-use Rattle.passes.specs.declared.Direction.{Direction}
-use Rattle.passes.specs.declared.Direction.TheVariants.{Forward, Inverse}
-use Rattle.passes.specs.WordLaws.{bound_times}
-use Rattle.passes.specs.GridLaws.{grid}
-use Rattle.spectrum.specs.Tile.{TileForward, TileInverse, TileTransformed, Square}
+use Rattle.passes.specs.Passes.{Direction, Forward, Inverse, Transformed}
+use Rattle.passes.specs.OrderLaws.{reversed_lt, transposed}
+use Rattle.spectrum.specs.Tile.{TileForward, TileInverse, TileTransformed}
 
 -- the transform of the rows, where column k in bit-reversed order holds the transforms of the columns of x at k
 pub second_transform : (m w l n : ℕ) (x : ℕ → ℕ → ℕ) (ts zs : List ℕ) → n ≡ 2 ^ l → Lanes.Forward m w l n ts zs
@@ -59,35 +52,3 @@ tile_transformed Forward b l n xs ys ts zs side size swapped columns rows = tile
 tile_transformed Inverse b l n xs ys ts zs side size swapped columns rows =
     let one = pow_one (2 ^ (b - 1) + 1) in
     tile_inverse (2 ^ b + 1) (2 ^ (b - 1) + 1) l n xs ys ts zs side size swapped (rw one at columns) (rw one at rows)
-
--- the bound across a transposition
-pub transposed_most : (n c : ℕ) (ys ts : List ℕ) → length ys ≡ n * n → length ts ≡ length ys → Permuted (across n) ys ts → AtMost c ys → AtMost c ts
-transposed_most n c ys ts size same swapped most = permuted_most (across n) ys ts c size (same ∙ size) (across_lt n) swapped most
-
--- no row is left out
-pub none_pruned : (direction : Direction) (n : ℕ) (xs : List ℕ) → 0 < n → length xs ≡ n * n → Pruned direction n n n xs
-none_pruned Forward n xs some size = record { some = some; empty = λ i lo hi. absurd (omega arith) }
-none_pruned Inverse n xs some size = omega arith
-
--- the numbers of the two transforms
-pub record Transforms (s n l b c : ℕ) : Type 0 where
-  pub some : 0 < n
-  pub count : passes n ≡ l
-  pub first : Grid s n n 1 b c
-  pub shl : (c * 2 ^ l) % 2 ^ 64 ≡ c * 2 ^ l
-  pub bound : Bound b (c * 2 ^ l)
-  pub second : Grid s n n 1 b (c * 2 ^ l)
-
-pub transforms : {s n l b c : ℕ} → Bound b c → Square s n l b c → Transforms s n l b c
-transforms {s} {n} {l} {b} {c} bound square =
-    let le : c * 2 ^ l * 1 ≤ c * 2 ^ l * 2 ^ l = mul-le-mul_left (c * 2 ^ l) (pow_pos l) in
-    let fits : c * 2 ^ l < 9223372036854775808 = omega (arith, mul-one (c * 2 ^ l), square.room) in
-    let period : 1 * n ≡ 2 * b = one-mul n ∙ square.period in
-    record {
-      some = omega (arith, square.side, pow_pos l);
-      count = passes_power square.side (omega (arith, square.halvings));
-      first = grid l square.side square.halvings square.whole period (rw square.side fits);
-      shl = mod-eq_of_lt (omega arith);
-      bound = bound_times bound (2 ^ l) (pow_pos l) fits;
-      second = grid l square.side square.halvings square.whole period (rw square.side square.room);
-    }

@@ -2,14 +2,15 @@
 use mathlib.Core.Path.{◌≡◌, sym, ap, ◌∙◌}
 use mathlib.Core.Logic.{◌⊎◌, inl, inr}
 use mathlib.Core.List.{List}
-use Prim.Native.Nat.{ℕ, suc, ◌+◌, ◌-◌, ◌*◌, ◌/◌, ◌%◌, ◌<◌, ◌≤◌}
+use Prim.Native.Nat.{ℕ, ◌+◌, ◌-◌, ◌*◌, ◌/◌, ◌%◌, ◌<◌, ◌≤◌}
 use native.Mathlib.Nat.{mul_comm, mul-le-mul_left, mul-le-mul_right}
 use native.Mathlib.Decide.{dec_lt}
 use native.Mathlib.Omega.{arith}
 use lib.Arith.{digits_lt}
 use lib.ListN.{length, get_or, set}
+use borrow.Rule.Slice.PartMut.{put_mid}
 use Rattle.algebra.specs.Places.{Written, Run}
-use Rattle.algebra.specs.PlacesLaws.{written_as, written_again, written_longer}
+use Rattle.algebra.specs.PlacesLaws.{written_as, written_again, written_longer, get_d_put_mid, get_d_put_mid_before}
 use Rattle.passes.specs.OrderLaws.{place_row, place_column}
 use Rattle.spectrum.specs.Corner.{corner_start, transposed_word, Widened}
 
@@ -22,12 +23,6 @@ front_le n k small =
 -- n rows of k words are no more than a tile
 pub corner-inside : (n k : ℕ) → 2 * k ≤ n → n * k ≤ n * n
 corner-inside n k small = mul-le-mul_left n (omega arith)
-
--- row c of them ends inside it
-pub narrow_le : (n k c : ℕ) → 2 * k ≤ n → c < n → corner_start n k + (c * k + k) ≤ n * n
-narrow_le n k c small lc =
-    let rows : suc c * k ≤ n * k = mul-le-mul_right k lc in
-    omega (arith, corner-inside n k small)
 
 -- row r, column c at the front takes row c, column r of the narrow rows
 transposed_word_lem : {n : ℕ} (k : ℕ) (xs : List ℕ) (r c : ℕ) → c < n → transposed_word n k xs (r * n + c) ≡ get_or xs (corner_start n k + (c * k + r)) 0
@@ -64,15 +59,19 @@ widen_next n k r {xs} {ys} {zs} small le rows row =
     go p h (no l) = inr (omega arith, omega (arith, next))
 
 -- all rows, and 0 after them
-pub widened : (n k : ℕ) {xs ys zs : List ℕ} → k ≤ n → length xs ≡ n * n → Written 0 (Run 0 (k * n)) (transposed_word n k xs) xs ys
-    → Written 0 (Run (k * n) (n * n - k * n)) (λ _. 0) ys zs → Widened n k xs zs
-widened n k {xs} {ys} {zs} le size rows cleared = record {
+pub widened : (n k s : ℕ) {xs ys : List ℕ} (fs : List ℕ) → k ≤ n → length xs ≡ n * n → k * n + s ≡ n * n
+    → Written 0 (Run 0 (k * n)) (transposed_word n k xs) xs ys → length fs ≡ s → ((i : ℕ) → i < s → get_or fs i 0 ≡ 0)
+    → Widened n k xs (put_mid (k * n) s ys fs)
+widened n k s {xs} {ys} fs le size whole rows long none = record {
   transposed = λ r c lr lc.
       let here : r * n + c < k * n = digits_lt lr lc in
-      cleared.kept (r * n + c) (λ h. omega arith) ∙ rows.here (r * n + c) (omega (arith, inside)) (omega arith, omega arith)
-      ∙ transposed_word_lem k xs r c lc;
-  empty = λ i lo hi. cleared.here i (omega (arith, rows.same_length)) (lo, omega (arith, inside));
+      get_d_put_mid_before 0 ys fs (k * n) s inside long (r * n + c) here
+      ∙ rows.here (r * n + c) (omega (arith, inside, rows.same_length)) (omega arith, omega arith) ∙ transposed_word_lem k xs r c lc;
+  empty = λ i lo hi.
+      let e : i ≡ k * n + (i - k * n) = omega arith in
+      ap (λ (p : ℕ). get_or (put_mid (k * n) s ys fs) p 0) e
+      ∙ get_d_put_mid 0 ys fs (k * n) s inside long (i - k * n) (omega arith) ∙ none (i - k * n) (omega arith);
 }
   where
-    inside : k * n ≤ n * n
-    inside = mul-le-mul_right n le
+    inside : k * n + s ≤ length ys
+    inside = omega (arith, rows.same_length)

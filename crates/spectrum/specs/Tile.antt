@@ -5,8 +5,7 @@ use Rattle.fermat.specs.Field.{modulus, transform_length}
 use Rattle.fermat.specs.Transform.{power_sum2}
 use Rattle.passes.specs.Order.{reversed}
 use Rattle.passes.specs.Halving.{word}
-use Rattle.passes.specs.declared.Direction.{Direction}
-use Rattle.passes.specs.declared.Direction.TheVariants.{Forward, Inverse}
+use Rattle.passes.specs.Passes.{Direction, Forward, Inverse}
 
 -- the words of ys from `at` on hold the transform of x at the root w, modulo m. The entry of row frequency k and column frequency i
 -- stands at row i and column k, both in bit-reversed order: rows and columns have changed places, and are not put back.

@@ -3,12 +3,13 @@
 // serves both: k is at most half of n, so that n rows of k words at its end and k rows of n words at its front do not meet.
 ghost use Rattle.std.specs.Prelude.{◌≡◌, ◌+◌, ◌*◌, ◌^◌, ◌<◌, ◌≤◌, length};
 ghost use Rattle.algebra.specs.Places.{Written, Run};
-ghost use Rattle.passes.specs.Butterfly.{Bound, AtMost};
+ghost use Rattle.passes.specs.Butterfly.{AtMost};
+ghost use Rattle.passes.specs.Passes.{passes};
 ghost use Rattle.spectrum.specs.Tile.{TileForward, Square};
 ghost use Rattle.spectrum.specs.Corner.{corner_start, corner, Cornered, transposed_word, Widened};
 
-use base::words::clear;
-use passes::forward;
+use crate::tile::transformed;
+use passes::{Residues, forward};
 
 // Row r becomes column r of the n rows of k words at the end.
 fn widen_row(words: &mut [u64], n: usize, k: usize, r: usize)
@@ -16,12 +17,9 @@ fn widen_row(words: &mut [u64], n: usize, k: usize, r: usize)
     ensures { Written 0 (Run (r * n) n) (transposed_word n k words.old) words.old words.new }
 {
     let first = r * n;
-    let mut from = n * n - n * k + r;
-    let mut c = 0;
-    while c < n {
-        words[first + c] = words[from];
-        from += k;
-        c += 1;
+    let from = n * n - n * k + r;
+    for c in 0..n {
+        words[first + c] = words[from + c * k];
     }
 }
 
@@ -30,31 +28,21 @@ fn widen(words: &mut [u64], n: usize, k: usize)
     requires { (length words.old ≡ n * n) × (2 * k ≤ n) }
     ensures { Widened n k words.old words.new }
 {
-    let mut r = 0;
-    while r < k {
+    for r in 0..k {
         widen_row(words, n, k, r);
-        r += 1;
     }
-    clear(words, k * n, n * n);
+    words[k * n..].fill(0);
 }
 
-// The transform of the corner at the end takes the place of the whole, as `forward_tile` leaves that of a whole tile.
-pub(crate) fn forward_corner(
-    words: &mut [u64],
-    n: usize,
-    k: usize,
-    halvings: u32,
-    bits: u32,
-    bound: u64,
-)
-    requires bound { Bound bits bound }
-    requires square { Square (n * n) n halvings bits bound }
-    requires cornered { Cornered n k bound words.old }
-    ensures tile_forward { TileForward (2 ^ bits + 1) 2 halvings n (corner k (corner_start n k) words.old) 0 words.new }
-    ensures at_most { AtMost (bound * 2 ^ halvings * 2 ^ halvings) words.new }
+// The transform of the corner at the end takes the place of the whole, as `transform_tile` leaves that of a whole tile.
+pub(crate) fn forward_corner(words: &mut [u64], n: usize, k: usize, residues: Residues)
+    requires square { Square (n * n) n (passes n) residues.bits residues.bound }
+    requires cornered { Cornered n k residues.bound words.old }
+    ensures tile_forward { TileForward (2 ^ residues.bits + 1) 2 (passes n) n (corner k (corner_start n k) words.old) 0 words.new }
+    ensures at_most { AtMost (residues.bound * n * n) words.new }
 {
     let from = n * n - n * k;
-    forward(&mut words[from..], n, k, k, 1, bits, bound);
+    forward(&mut words[from..], n, k, k, 1, residues);
     widen(words, n, k);
-    forward(words, n, k, n, 1, bits, bound << halvings);
+    forward(words, n, k, n, 1, transformed(residues, n));
 }

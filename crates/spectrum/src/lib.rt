@@ -9,12 +9,15 @@ ghost use Rattle.spectrum.specs.Tile.{Spectrum, Recovered};
 ghost use Rattle.spectrum.specs.Corner.{corner_start, corner, Cornered};
 ghost use Rattle.spectrum.specs.Product.{factor_most};
 
+use bounds::{loaded, settled};
 use corner::forward_corner;
-use fermat::field::{bits_of, halvings_of, modulus_of, transform_length};
+use fermat::field::{bits_of, halvings_of, transform_length};
+use passes::{Forward, Inverse};
 use product::{offset_residues, settle_in};
-use tile::{forward_tile, inverse_tile};
+use tile::transform_tile;
 use value::offset_of;
 
+pub mod bounds;
 mod corner;
 pub mod product;
 mod tile;
@@ -26,10 +29,7 @@ pub fn tile_spectrum(words: &mut [u64], field: usize)
     ensures spectrum { Spectrum field (λ r j. word (transform_length field) r j words.old) 0 words.new }
     ensures at_most_2 { AtMost (factor_most field) words.new }
 {
-    let n = transform_length(field);
-    let halvings = halvings_of(field);
-    let bits = bits_of(field);
-    forward_tile(words, n, halvings, bits, 2 * modulus_of(field));
+    transform_tile::<Forward>(words, transform_length(field), loaded(field));
 }
 
 // The same for a corner, which stands in the last words.
@@ -38,10 +38,7 @@ pub fn corner_spectrum(words: &mut [u64], k: usize, field: usize)
     ensures spectrum { Spectrum field (corner k (corner_start (transform_length field) k) words.old) 0 words.new }
     ensures at_most { AtMost (factor_most field) words.new }
 {
-    let n = transform_length(field);
-    let halvings = halvings_of(field);
-    let bits = bits_of(field);
-    forward_corner(words, n, k, halvings, bits, 2 * modulus_of(field));
+    forward_corner(words, transform_length(field), k, loaded(field));
 }
 
 // From the transform of a tile, such as a sum of products of transforms, back to the tile: each of its words as a residue, with half of
@@ -50,11 +47,12 @@ pub fn recover_tile(words: &mut [u64], field: usize)
     requires { (4 ≤ field) × (field ≤ 5) × (length words.old ≡ transform_length field * transform_length field) }
     ensures { Recovered field words.old words.new }
 {
-    let n = transform_length(field);
-    let halvings = halvings_of(field);
-    let bits = bits_of(field);
-    let bound = 4 * modulus_of(field);
     settle_in(field, words);
-    inverse_tile(words, n, halvings, bits, bound);
-    offset_residues(words, bits, 2 * halvings, offset_of(field));
+    transform_tile::<Inverse>(words, transform_length(field), settled(field));
+    offset_residues(
+        words,
+        bits_of(field),
+        2 * halvings_of(field),
+        offset_of(field),
+    );
 }

@@ -1,30 +1,20 @@
-use mathlib.Core.Path.{◌≡◌}
-use Prim.Native.Nat.{◌*◌, ◌≤◌}
-use native.Mathlib.Nat.{mul-le-mul_right}
-use native.Mathlib.Omega.{arith}
-use Rattle.algebra.specs.PlacesLaws.{written_nothing}
+use Rattle.std.proofs.Common.{◌≡◌, refl, ◌+◌, ◌-◌, ◌*◌, ◌≤◌, length, ◌∙◌, mul-le-mul_right, arith}
+use Rattle.passes.specs.PartLaws.{part_length}
 use Rattle.spectrum.proofs.Widening.{widen_next, widened}
 use Rattle.spectrum.proofs.corner.widen.Goals as goal
-use Rattle.spectrum.proofs.corner.widen.Goals.{At-loop-r}
-
--- the rows that were taken lie inside
-inside : (c : At-loop-r) → let a = c.args in a.k * a.n ≤ a.n * a.n
-inside c = mul-le-mul_right c.args.n (omega (arith, c.requires.1))
-
-pub loop-r-init : goal.loop-r-init
-loop-r-init c = (omega arith, written_nothing (λ p h. omega arith))
 
 pub loop-r-preserved : goal.loop-r-preserved
-loop-r-preserved c =
-    (omega arith, widen_next _ _ _ c.requires.1 (omega arith) c.loop-r.invariant.1 c.widen_row.ensures)
-
-pub overflow_mul-k : goal.overflow_mul-k
-overflow_mul-k c = omega (arith, inside (goal.at.overflow_mul-k c).At-loop-r)
-
-pub clear-requires : goal.clear-requires
-clear-requires c = (omega (arith, inside (goal.at.clear-requires c).At-loop-r), omega (arith, c.loop-r.invariant.1.same_length))
+loop-r-preserved c = widen_next _ _ _ c.requires.1 (omega arith) c.loop-r.invariant c.widen_row.ensures
 
 pub returns : goal.returns
 returns c =
-    let last : c.loop-r.r ≡ c.args.k = omega arith in
-    widened c.args.n c.args.k (omega (arith, c.requires.1)) c.requires.0 (rw last at c.loop-r.invariant.1) c.clear.ensures
+    let a = c.args in
+    let at = a.k * a.n in
+    let size = length c.loop-r.words - at in
+    let last : c.loop-r.r ≡ a.k = omega arith in
+    let rows = rw last at c.loop-r.invariant in
+    let inside : at ≤ a.n * a.n = mul-le-mul_right a.n (omega (arith, c.requires.1)) in
+    let whole : at + size ≡ a.n * a.n = omega (arith, rows.same_length, c.requires.0) in
+    let long = part_length at size c.loop-r.words (omega (arith, rows.same_length, c.requires.0)) in
+    widened a.n a.k size c.fill.new.self (omega (arith, c.requires.1)) c.requires.0 whole rows (c.fill.ensures.len ∙ long)
+    (λ i l. c.fill.ensures.clones i 0 (rw long l) refl)
