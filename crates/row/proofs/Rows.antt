@@ -14,12 +14,11 @@ use Rattle.fermat.specs.Transform.{power_sum}
 use Rattle.fermat.specs.TransformLaws.{c_power_sum, c_undo}
 use Rattle.passes.specs.Order.{reversed, across, Permuted}
 use Rattle.passes.specs.OrderLaws.{reversed_lt, reversed-reversed, transposed}
-use Rattle.passes.specs.Butterfly.{Bound, AtMost}
+use Rattle.passes.specs.Butterfly.{AtMost}
 use Rattle.passes.specs.Halving.{word, Forward, Inverse}
 use Rattle.passes.specs.Passes.{passes, Grid}
 use Rattle.passes.specs.PassLaws.{passes_power}
-use Rattle.passes.specs.WordLaws.{bound_times}
-use Rattle.passes.specs.GridLaws.{grid, row_bound}
+use Rattle.passes.specs.GridLaws.{grid}
 use Rattle.fermat.specs.Field.{modulus}
 use Rattle.spectrum.specs.Value.{offset_of}
 use Rattle.spectrum.specs.Product.{OffsetResidue}
@@ -29,12 +28,6 @@ use Rattle.row.specs.FrequencyLaws.{other_order}
 use Rattle.row.specs.Row.{frequency_of, Twisted, RowSpectrum, RowRecovered}
 
 -- ---- numbers
-
-pub bound_2 : Bound 16 131074
-bound_2 = row_bound 4 (omega arith)
-
-pub bound_4 : Bound 16 262148
-bound_4 = bound_times bound_2 2 (omega arith) (omega arith)
 
 -- the passes of a transform of 16 words
 pub passes_16 : passes 16 ≡ 4
