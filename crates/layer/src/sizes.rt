@@ -32,7 +32,7 @@ pub fn output_count(layer: Layer) -> usize
 }
 
 // E of a map's height and the rows added, F of its width and the columns added.
-#[tactic(auto, using(crate::specs::PlannedLaws::tconv_output), unfolding(crate::specs::Shape::conv_size, crate::specs::Shape::tconv_size))]
+#[tactic(auto, using(crate::specs::PlannedLaws::tconv_fits), unfolding(crate::specs::Shape::conv_size, crate::specs::Shape::tconv_size))]
 pub fn full_size(layer: Layer, extent: usize, added: usize) -> usize
     requires { Outputs layer extent added }
     ensures { result ≡ full_size layer extent added }
