@@ -5,7 +5,7 @@ use Rattle.std.proofs.Common.{sym, ◌∙◌, div-lt_iff_lt-mul, suc-mul, arith,
 use Rattle.std.proofs.Math.Decide.{dec_lt}
 use Rattle.algebra.specs.CountedLaws.{counted_same, counted_none, counted_below, counted_between}
 use Rattle.base.specs.Number.{ceiling_div}
-use Rattle.base.specs.NumberLaws.{quotient_is, ceiling_le, le_ceiling}
+use Rattle.base.specs.NumberLaws.{quotient_is, ceiling_le, le_ceiling, div_ceil_is}
 use Rattle.layer.specs.declared.shape.Layer.{Layer}
 use Rattle.layer.specs.Planned.{InRange, Planned}
 use Rattle.layer.specs.Shape.{grid_step, span}
@@ -49,6 +49,9 @@ held_before_lem l count length part step some = counted_same count (λ e below. 
     go e (no a) =
         let high : e * grid_step l / length < part → ⊥ = λ h. a ((div-lt_iff_lt-mul some).0 h) in
         le-ltb (e * grid_step l / length) part (omega arith) ∙ sym (le-ltb e first (ceiling_le (part * length) (grid_step l) e step (omega arith)))
+
+-- by these `grind` finds it in the library's quotient
+pub ruleset held_steps = (held_before_lem, div_ceil_is, step_range)
 
 pub held_none : (l : Layer) (count length : ℕ) → held_before l count length 0 ≡ 0
 held_none l count length = counted_none count {f = λ e. ltb (e * grid_step l / length) 0} (λ e below. le-ltb (e * grid_step l / length) 0 (omega arith))

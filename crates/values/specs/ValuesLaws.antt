@@ -32,6 +32,9 @@ module _ (engine : Engine) (l : Layer) where
       → values_in engine l from middle + values_in engine l middle to ≡ values_in engine l from to
   values_then from middle to a b = omega (arith, between from middle a, between middle to b, between from to (omega arith))
 
+  pub values_grow : (from mid to : ℕ) → from ≤ mid → mid ≤ to → values_in engine l from mid ≤ values_in engine l from to
+  values_grow from mid to order more = omega (arith, values_then from mid to order more)
+
   -- from part 0 on, one test is enough
   pub values_first : (to : ℕ) → values_in engine l 0 to ≡ counted (output_count l) (λ p. ltb (engine.part_of l p) to)
   unfolding values_in

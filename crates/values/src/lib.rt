@@ -40,6 +40,7 @@ fn values_before(method: Method, layer: Layer, part: usize) -> usize
 }
 
 // The values in the parts from `from` up to `to`.
+#[tactic(auto, using(crate::specs::ValuesLaws::values_then, crate::specs::ValuesLaws::values_grow))]
 pub fn values_in(method: Method, layer: Layer, from: usize, to: usize) -> usize
     requires { Planned layer × (from ≤ to) × (to ≤ (engine_of method).total layer) }
     ensures { result ≡ values_in (engine_of method) layer from to }

@@ -3,7 +3,6 @@ ghost use Rattle.std.specs.Prelude.{◌≡◌, ◌≤◌};
 ghost use Rattle.layer.specs.Planned.{InRange};
 ghost use Rattle.values.specs.PartSize.{part_height, part_width, held_before};
 
-use base::number::{ceiling_div, lesser};
 use checks::method::Method;
 use layer::shape::Layer;
 use layer::{sizes, strips};
@@ -31,9 +30,10 @@ pub(crate) fn part_width(method: Method, layer: Layer) -> usize
 }
 
 // Of `count` rows or columns, those in the parts before `part` along them: those that begin on the grid before the part does.
+#[tactic(auto, using(crate::specs::PartSizeLaws::held_steps))]
 pub(crate) fn held_before(layer: Layer, count: usize, length: usize, part: usize) -> usize
     requires { InRange layer × (1 ≤ length) × (length ≤ 256) × (part ≤ 8484) }
     ensures { result ≡ held_before layer count length part }
 {
-    lesser(count, ceiling_div(part * length, sizes::grid_step(layer)))
+    count.min((part * length).div_ceil(sizes::grid_step(layer)))
 }
