@@ -82,22 +82,6 @@ module _ (c : After-held_before-left) where
     left_is = c.held_before-left.ensures;
   }
 
-pub part_height-height-requires : goal.part_height-height-requires
-part_height-height-requires c = c.requires.0.shape
-
-pub part_width-width-requires : goal.part_width-width-requires
-part_width-width-requires c = c.requires.0.shape
-
-pub parts_along-down-requires : goal.parts_along-down-requires
-parts_along-down-requires c =
-    let range = height_range c.args.method c.args.layer c.requires.0.shape in
-    (rows_wanted _ c.requires.0, omega (arith, c.part_height-height.ensures, range.0), omega (arith, c.part_height-height.ensures, range.1))
-
-pub parts_along-across-requires : goal.parts_along-across-requires
-parts_along-across-requires c =
-    let range = width_range c.args.method c.args.layer c.requires.0.shape in
-    (columns_wanted _ c.requires.0, omega (arith, c.part_width-width.ensures, range.0), omega (arith, c.part_width-width.ensures, range.1))
-
 pub nonzero_div-line : goal.nonzero_div-line
 nonzero_div-line c = omega (arith, divides_across c)
 
