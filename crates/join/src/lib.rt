@@ -8,6 +8,7 @@ ghost use Rattle.joined.specs.Joinable.{Joinable};
 ghost use Rattle.joined.specs.Joined.{joined_layer, joined_kernel};
 ghost use Rattle.join.specs.Answer.{weights_fit, join_code, join_left};
 
+use base::rules::code_of;
 use joined::weight::weight_at;
 use layer::shape::Layer;
 
@@ -26,12 +27,8 @@ fn write_weights(
     requires second_kernel_value { weights_fit first first_kernel.now second second_kernel.now ≡ true }
     ensures { joined.new ≡ joined_kernel first first_kernel.now second second_kernel.now }
 {
-    let mut p = 0;
-    while p < joined.len() {
-        let weight = weight_at(first, first_kernel, second, second_kernel, p);
-        let value = weight as i16;
-        joined[p] = value;
-        p += 1;
+    for (p, value) in joined.iter_mut().enumerate() {
+        *value = weight_at(first, first_kernel, second, second_kernel, p) as i16;
     }
 }
 
@@ -47,10 +44,9 @@ pub fn join(
     ensures value { result ≡ join_code first first_kernel.now second second_kernel.now (length joined.old) }
     ensures joined_after { joined.new ≡ join_left first first_kernel.now second second_kernel.now joined.old }
 {
-    let code = checks::join_code(first, first_kernel, second, second_kernel, joined.len());
-    if code != 0 {
-        return code;
+    let checked = checks::check_join(first, first_kernel, second, second_kernel, joined.len());
+    if checked.is_ok() {
+        write_weights(first, first_kernel, second, second_kernel, joined);
     }
-    write_weights(first, first_kernel, second, second_kernel, joined);
-    0
+    code_of(checked)
 }

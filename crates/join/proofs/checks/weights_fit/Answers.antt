@@ -1,35 +1,40 @@
-use mathlib.Core.Path.{◌≡◌, refl, ap, ap₂, ◌∙◌}
-use mathlib.Core.Bool.{Bool, ◌&&◌}
-use Prim.Native.Nat.{ℕ}
-use native.Mathlib.Omega.{arith}
-use borrow.Author.Rules.{sfits_of}
-use mir.Facts.{to_z-of_z}
-use mir.Syntax.{w64}
-use Rattle.algebra.specs.EveryLaws.{every_next}
-use Rattle.layer.specs.Shape.{kernel_count}
-use Rattle.joined.specs.Joined.{joined_layer, joined_at}
+-- What the closure answers for a place is the test of its weight, and the places are all that are counted.
+use Rattle.std.specs.Prelude.{◌≡◌, refl, Bool, true, false, ◌&&◌, ℕ, zero, suc, ◌+◌}
+use Rattle.std.specs.List.{list_all, range_with_len}
+use Rattle.std.proofs.Common.{sym, ap, ◌∙◌, arith, rules}
+use Rattle.std.proofs.lemmas.Iterator.{YieldsList-from_range}
+use Rattle.std.proofs.lemmas.Iterator.Search.{all_from_yields_List}
+use borrow.Author.Tests.{tests}
+use Rattle.algebra.specs.Every.{every}
+use Rattle.algebra.specs.EveryLaws.{every_cong}
+use Rattle.joined.specs.Joined.{joined_at}
 use Rattle.join.specs.Answer.{fits, weights_fit}
 use Rattle.join.proofs.checks.weights_fit.Goals as goal
 
-pub loop-p-init : goal.loop-p-init
-loop-p-init c = (omega arith, refl)
+both_assoc : (x y z : Bool) → (x && y) && z ≡ x && (y && z)
+both_assoc true y z = refl
+both_assoc false y z = refl
 
-pub weight_at-weight-requires : goal.weight_at-weight-requires
-weight_at-weight-requires c =
-    (c.requires.0, omega (arith, c.requires.1))
+both_true : (x : Bool) → x ≡ x && true
+both_true true = refl
+both_true false = refl
 
-pub loop-p-preserved : goal.loop-p-preserved
-loop-p-preserved c =
-    let a = c.args in
-    let test : ℕ → Bool = λ q. fits (joined_at a.first a.first_kernel.now a.second a.second_kernel.now q) in
-    let word = to_z-of_z {w = w64} {z = c.weight_at-weight.result} (sfits_of c.weight_at-weight.type_inv) in
-    let tested : c.is_weight-fit.result ≡ test c.loop-p.p =
-    (rw word at c.is_weight-fit.ensures) ∙ ap fits c.weight_at-weight.ensures.0 in
-    (omega arith, ap₂ ◌&&◌ c.loop-p.invariant.1 tested ∙ every_next test c.loop-p.p)
+-- the first test apart
+every_first : (n : ℕ) (test : ℕ → Bool) → every (suc n) test ≡ test 0 && every n (λ i. test (suc i))
+every_first zero test = both_true (test 0)
+every_first (suc n) test = ap (λ (b : Bool). b && test (suc n)) (every_first n test) ∙ both_assoc (test 0) _ _
+
+all-range : (test : ℕ → Bool) (a n : ℕ) → list_all test (range_with_len a n) ≡ every n (λ i. test (a + i))
+all-range test a zero = refl
+all-range test a (suc n) =
+    ap (λ (b : Bool). test a && b) (all-range test (a + 1) n ∙ every_cong n _ _ (λ i l. ap test (omega arith)))
+    ∙ ap (λ (k : ℕ). test k && every n (λ i. test (a + suc i))) (omega arith)
+    ∙ sym (every_first n (λ i. test (a + i)))
 
 pub returns : goal.returns
 unfolding weights_fit
 returns c =
-    let loop = c.loop-p in
-    let done : loop.p ≡ kernel_count (joined_layer c.args.first c.args.second) = omega (arith, c.requires.1) in
-    rw (loop.invariant.1, done)
+    let a = c.args in
+    let test : ℕ → Bool = λ p. fits (joined_at a.first a.first_kernel.now a.second a.second_kernel.now p) in
+    let found = all_from_yields_List test _ _ c.all.result c.all.ensures.ran (YieldsList-from_range 0 a.count a.count (cc) (omega arith)) (λ x b q k. search (rules, tests)) in
+    found ∙ all-range test 0 a.count ∙ every_cong a.count _ _ (λ i l. ap test (omega arith)) ∙ ap (λ (n : ℕ). every n test) c.requires.1
