@@ -33,12 +33,9 @@ fn row_sum(plane: &[i16], from: usize, side: usize, group: Group) -> u64
     ensures value { result ≡ apart group.step group.column side (λ b. nat_abs (get_or plane.now (from + b) (pos 0))) }
     ensures upper_bound { result ≤ 32768 * side }
 {
-    let step = group.step; // how far the group's columns lie apart
     let mut total: u64 = 0;
-    let mut b = group.column;
-    while b < side {
+    for b in (group.column..side).step_by(group.step) {
         total += u64::from(plane[from + b].unsigned_abs());
-        b += step;
     }
     total
 }
@@ -48,12 +45,9 @@ fn rows_sum(plane: &[i16], side: usize, group: Group) -> u64
     requires { IsGroup group × (side ≤ 11) × (length plane.now ≡ side * side) }
     ensures { (result ≡ group_sum side plane.now group) × (result ≤ 121 * 32768) }
 {
-    let step = group.step; // how far its rows lie apart
     let mut total: u64 = 0;
-    let mut a = group.row;
-    while a < side {
+    for a in (group.row..side).step_by(group.step) {
         total += row_sum(plane, a * side, side, group);
-        a += step;
     }
     total
 }

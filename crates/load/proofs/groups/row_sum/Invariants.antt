@@ -7,7 +7,7 @@ use Rattle.load.proofs.groups.row_sum.Given as goal
 
 abbrev pub invariant-loop-b : goal.invariant-loop-b
 invariant-loop-b l =
-    SummedTo l.step l.initial.b l.side (λ k. nat_abs (get_or l.plane (l.from + k) (pos 0))) l.b l.total × (l.total ≤ 32768 * l.b) × (l.total ≤ 32768 * l.side)
+    SummedTo l.fn.group.step l.fn.group.column l.side (λ k. nat_abs (get_or l.plane (l.from + k) (pos 0))) l.b l.total × (l.total ≤ 32768 * l.b) × (l.total ≤ 32768 * l.side)
 
 abbrev pub decreases-loop-b : goal.decreases-loop-b
 decreases-loop-b l = l.side - l.b

@@ -8,7 +8,7 @@ use Rattle.load.proofs.groups.rows_sum.Given as goal
 
 abbrev pub invariant-loop-a : goal.invariant-loop-a
 invariant-loop-a l =
-    SummedTo l.step l.group.row l.side (λ k. apart l.group.step l.group.column l.side (λ b. nat_abs (get_or l.plane (k * l.side + b) (pos 0)))) l.a l.total
+    SummedTo l.fn.group.step l.fn.group.row l.side (λ k. apart l.fn.group.step l.fn.group.column l.side (λ b. nat_abs (get_or l.plane (k * l.side + b) (pos 0)))) l.a l.total
     × (l.total ≤ 32768 * 11 * l.a) × (l.total ≤ 32768 * 11 * l.side)
 
 abbrev pub decreases-loop-a : goal.decreases-loop-a
