@@ -2,12 +2,14 @@
 pub mod Engine
 pub mod Rules
 pub mod Checks
+pub mod Found
 pub mod Callable
 pub mod FormerLoad
 -- laws
 pub mod ChecksLaws
 pub mod CallableLaws
 pub mod OffenderLaws
+pub mod FoundLaws
 pub mod EngineLaws
 pub mod BeyondLaws
 pub mod FormerLoadLaws

@@ -7,7 +7,7 @@ ghost use Rattle.checks.specs.Engine.{engine_of};
 use layer::shape::Layer;
 use layer::{sizes, strips};
 
-#[derive(Clone, Copy)]
+#[derive(Clone, Copy, Debug, PartialEq, Eq)]
 pub enum Method {
     Tiles,
     Strips,

@@ -1,6 +1,8 @@
--- `plan_by` is `plan_of`: the code decides whether the figures are 0 or those of the layer.
+-- `plan_by` is `plan_of`: where the layer is refused the figures are 0, else they are those of the layer.
 use mathlib.Core.Path.{◌≡◌, refl, sym, ap, ◌∙◌}
-use Prim.Native.Nat.{ℕ, zero, suc}
+use Prim.Native.Nat.{ℕ, zero, suc, ◌<◌}
+use native.Mathlib.Omega.{arith}
+use Rattle.base.specs.RefusalsLaws.{number_above}
 use Rattle.layer.specs.Planned.{Planned}
 use Rattle.layer.specs.declared.shape.Layer.{Layer}
 use Rattle.layer.specs.declared.shape.Plan.{Plan}
@@ -10,12 +12,13 @@ use Rattle.checks.specs.Checks.{plan_code, figures, plan_of}
 use Rattle.checks.specs.ChecksLaws.{planned}
 use Rattle.checks.specs.EngineLaws.{lawful}
 use Rattle.checks.proofs.planner.plan_by.Goals as goal
-use Rattle.checks.proofs.planner.plan_by.Goals.{Else-code-ne0}
+use Rattle.checks.proofs.planner.plan_by.Goals.{In-Ok}
 
-refused : (method : Method) (code : ℕ) (l : Layer) → (code ≡ 0 → ⊥)
+-- the figures of a number that is answered are 0
+refused : (method : Method) (l : Layer) (code : ℕ) → 0 < code
     → record { code = code; height = 0; width = 0; parts = 0; scratch = 0 } ≡ figures (engine_of method) code l
-refused method zero l stopped = absurd (stopped refl)
-refused method (suc code) l stopped = refl
+refused method l zero above = absurd (omega arith)
+refused method l (suc code) above = refl
 
 made : {height width parts scratch height' width' parts' scratch' : ℕ}
     → height ≡ height' → width ≡ width' → parts ≡ parts' → scratch ≡ scratch'
@@ -23,35 +26,31 @@ made : {height width parts scratch height' width' parts' scratch' : ℕ}
     (record { code = 0; height = height'; width = width'; parts = parts'; scratch = scratch' })
 made h w t s = cc
 
-accepted : (c : Else-code-ne0) → let a = c.args in plan_code (engine_of a.method) a.layer ≡ 0
-accepted c = sym c.plan_code-code.ensures ∙ c.if-code-ne0.false
-
-shown : (c : Else-code-ne0) → Planned c.args.layer
-shown c = planned (lawful c.args.method) _ (accepted c)
-
-pub returns-then-code-ne0 : goal.returns-then-code-ne0
-unfolding plan_of
-returns-then-code-ne0 c =
-    let a = c.args in
-    refused a.method c.plan_code-code.result a.layer c.if-code-ne0.true
-    ∙ ap (λ (code : ℕ). figures (engine_of a.method) code a.layer) c.plan_code-code.ensures
+shown : (c : In-Ok) → Planned c.args.layer
+shown c = planned (lawful c.args.method) _ (sym c.in-Ok.ensures)
 
 pub full_size-requires : goal.full_size-requires
 full_size-requires c = (shown c).height_output
 
-pub full_size-requires-2 : goal.full_size-requires-2
-full_size-requires-2 c = (shown (goal.at.full_size-requires-2 c).Else-code-ne0).width_output
+pub full_size-requires-in-Ok : goal.full_size-requires-in-Ok
+full_size-requires-in-Ok c = (shown (goal.at.full_size-requires-in-Ok c).In-Ok).width_output
 
 pub part_total-requires : goal.part_total-requires
-part_total-requires c = shown (goal.at.part_total-requires c).Else-code-ne0
+part_total-requires c = shown (goal.at.part_total-requires c).In-Ok
 
 pub scratch_words-requires : goal.scratch_words-requires
-scratch_words-requires c = (shown (goal.at.scratch_words-requires c).Else-code-ne0).shape
+scratch_words-requires c = (shown (goal.at.scratch_words-requires c).In-Ok).shape
 
-pub returns : goal.returns
+pub returns-in-Ok : goal.returns-in-Ok
 unfolding plan_of
-returns c =
+returns-in-Ok c =
     let a = c.args in
-    made c.full_size.ensures c.full_size-2.ensures c.part_total.ensures
-    c.scratch_words.ensures
-    ∙ sym (ap (λ (code : ℕ). figures (engine_of a.method) code a.layer) (accepted (goal.at.returns c).Else-code-ne0))
+    made c.full_size.ensures c.full_size-in-Ok.ensures c.part_total.ensures c.scratch_words.ensures
+    ∙ ap (λ (code : ℕ). figures (engine_of a.method) code a.layer) c.in-Ok.ensures
+
+pub returns-in-Err : goal.returns-in-Err
+unfolding plan_of
+returns-in-Err c =
+    let a = c.args in
+    refused a.method a.layer _ (omega (arith, number_above c.in-Err.refusal, c.number.ensures))
+    ∙ ap (λ (code : ℕ). figures (engine_of a.method) code a.layer) (c.number.ensures ∙ c.in-Err.ensures)
