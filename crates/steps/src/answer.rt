@@ -2,15 +2,16 @@
 // of the first map.
 ghost use Rattle.std.specs.Prelude.{◌≡◌};
 ghost use Rattle.base.specs.Rules.{first_broken};
+ghost use Rattle.base.specs.Refusals.{code_of};
+ghost use Rattle.checks.specs.Found.{found};
 ghost use Rattle.steps.specs.Steps.{step_at};
 ghost use Rattle.steps.specs.Linked.{AllPlanned};
 ghost use Rattle.steps.specs.Lent.{most_outputs, most_scratch, buffers_fit, room_rules, sequence_answer};
 
+use crate::check_steps;
 use crate::step::step_at;
-use crate::steps_code;
-use base::number::greater;
-use base::rules;
-use checks::calls::{Checked, check_map, without_place};
+use base::rules::{Refusal, require};
+use checks::calls::{Checked, Refused, check_map_values};
 use layer::sizes;
 
 // The lengths of the buffers that a sequence writes.
@@ -37,17 +38,12 @@ fn most_of(count: usize, steps: &[usize; 144]) -> Most
 {
     let mut outputs = 0;
     let mut scratch = 0;
-    let mut k = 0;
-    while k < count {
+    for k in 0..count {
         let step = step_at(steps, k);
-        outputs = greater(outputs, sizes::output_count(step.layer));
-        scratch = greater(scratch, sizes::scratch_words(step.layer));
-        k += 1;
+        outputs = outputs.max(sizes::output_count(step.layer));
+        scratch = scratch.max(sizes::scratch_words(step.layer));
     }
-    Most {
-        outputs: outputs,
-        scratch: scratch,
-    }
+    Most { outputs, scratch }
 }
 
 // Whether rule 12 holds, where the last layer has `last` outputs and the greatest `most`.
@@ -57,19 +53,34 @@ fn buffers_fit(room: Room, last: usize, most: usize) -> bool
     (room.last == last) & (most <= room.first) & (most <= room.second) & (most <= room.output)
 }
 
-// The first of the rules 10, 12 and 13 that is broken, or 0. `map` is the length of the first map.
-fn room_code(count: usize, steps: &[usize; 144], map: usize, room: Room) -> usize
+// The rules 10, 12 and 13. `map` is the length of the first map.
+fn check_room(count: usize, steps: &[usize; 144], map: usize, room: Room) -> Result<(), Refusal>
     requires { AllPlanned count (step_at steps.now) }
-    ensures { result ≡ first_broken (room_rules count (step_at steps.now) map room) }
+    ensures { code_of result ≡ first_broken (room_rules count (step_at steps.now) map room) }
 {
     let begin = step_at(steps, 0);
     let end = step_at(steps, count - 1);
     let most = most_of(count, steps);
     let fits = buffers_fit(room, sizes::output_count(end.layer), most.outputs);
-    let enough = most.scratch <= room.scratch;
-    let code = rules::next(0, 10, map == sizes::map_count(begin.layer));
-    let code = rules::next(code, 12, fits);
-    rules::next(code, 13, enough)
+    require(Refusal::MapLength, map == sizes::map_count(begin.layer))?;
+    require(Refusal::OutputLength, fits)?;
+    require(Refusal::ScratchLength, most.scratch <= room.scratch)
+}
+
+// All rules.
+fn check_rules(
+    count: usize,
+    steps: &[usize; 144],
+    map: &[i16],
+    kernels: &[i16],
+    room: Room,
+) -> Result<(), Refused>
+    ensures { found result ≡ sequence_answer count (step_at steps.now) map.now kernels.now room }
+{
+    check_steps(count, steps, kernels)?;
+    check_room(count, steps, map.len(), room)?;
+    let layer = step_at(steps, 0).layer;
+    check_map_values(layer, map)
 }
 
 // The first rule that is broken, or 0, and the first value of the first map beyond its peak where that is 15 or 25.
@@ -82,14 +93,5 @@ pub fn check_sequence(
 ) -> Checked
     ensures { result ≡ sequence_answer count (step_at steps.now) map.now kernels.now room }
 {
-    let code = steps_code(count, steps, kernels);
-    if code != 0 {
-        return without_place(code);
-    }
-    let code = room_code(count, steps, map.len(), room);
-    if code != 0 {
-        return without_place(code);
-    }
-    let layer = step_at(steps, 0).layer;
-    check_map(layer, map)
+    Checked::of(check_rules(count, steps, map, kernels, room))
 }

@@ -13,11 +13,9 @@ pub(crate) fn weights_before(steps: &[usize; 144], k: usize) -> usize
     ensures { (result ≡ weights_before (step_at steps.now) k) × (result ≤ 8 * 495616) }
 {
     let mut before = 0;
-    let mut i = 0;
-    while i < k {
+    for i in 0..k {
         let step = step_at(steps, i);
         before += sizes::kernel_count(step.layer);
-        i += 1;
     }
     before
 }

@@ -7,6 +7,7 @@ ghost use Rattle.steps.specs.Answer.{follows};
 use crate::step::{Step, step_at};
 
 // Whether the next layer takes what a step makes: as many channels, rows and columns, within its peak.
+#[tactic(auto, unfolding(crate::specs::Answer::follows))]
 fn is_followed(one: Step, next: Step) -> bool
     ensures { result ≡ follows one next }
 {
@@ -22,10 +23,8 @@ pub(crate) fn all_follow(count: usize, steps: &[usize; 144]) -> bool
     ensures { result ≡ every (count - 1) (λ k. follows (step_at steps.now k) (step_at steps.now (k + 1))) }
 {
     let mut fit = true;
-    let mut k = 0;
-    while k + 1 < count {
-        fit = fit & is_followed(step_at(steps, k), step_at(steps, k + 1));
-        k += 1;
+    for k in 0..count - 1 {
+        fit &= is_followed(step_at(steps, k), step_at(steps, k + 1));
     }
     fit
 }

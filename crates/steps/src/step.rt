@@ -20,11 +20,7 @@ fn layer_numbers(steps: &[usize; 144], k: usize) -> [usize; 16]
     ensures { result ≡ table 16 (number_at steps.now k) }
 {
     let mut numbers = [0usize; 16];
-    let mut i = 0;
-    while i < 16 {
-        numbers[i] = steps[18 * k + i];
-        i += 1;
-    }
+    numbers.copy_from_slice(&steps[18 * k..18 * k + 16]);
     numbers
 }
 

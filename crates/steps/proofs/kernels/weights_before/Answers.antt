@@ -18,7 +18,7 @@ counted : (c : After-kernel_count-before) → c.kernel_count-before.result ≤ 4
 counted c = omega (arith, c.kernel_count-before.ensures, kernel_high _ (planned_layer c.before.before).shape)
 
 pub loop-i-init : goal.loop-i-init
-loop-i-init c = (omega arith, sym (weights_none _), omega arith)
+loop-i-init c = (sym (weights_none _), omega arith)
 
 pub kernel_count-before-requires : goal.kernel_count-before-requires
 kernel_count-before-requires c =
@@ -31,12 +31,11 @@ overflow_add-before c = omega (arith, counted c)
 pub loop-i-preserved : goal.loop-i-preserved
 loop-i-preserved c =
     let own = ap (λ (s : Step). kernel_count s.layer) c.step_at-step.ensures in (
-      omega arith,
-      omega (arith, weights_next (step_at c.args.steps.now) c.loop-i.i, c.loop-i.invariant.1, c.kernel_count-before.ensures, own),
+      omega (arith, weights_next (step_at c.args.steps.now) c.loop-i.i, c.loop-i.invariant.0, c.kernel_count-before.ensures, own),
       omega (arith, counted c),
     )
 
 pub returns : goal.returns
 returns c =
     let done : c.loop-i.i ≡ c.args.k = omega arith in
-    (rw done at c.loop-i.invariant.1, omega arith)
+    (rw done at c.loop-i.invariant.0, omega arith)

@@ -2,7 +2,7 @@
 use mathlib.Core.Path.{◌≡◌}
 use mathlib.Core.Bool.{Bool}
 use mathlib.Core.List.{List}
-use Prim.Native.Nat.{ℕ, ◌+◌, ◌-◌, ◌≤◌}
+use Prim.Native.Nat.{ℕ, ◌+◌}
 use Rattle.algebra.specs.Every.{every}
 use Rattle.steps.specs.Steps.{step_at}
 use Rattle.steps.specs.Answer.{follows}
@@ -13,7 +13,4 @@ abbrev pub pair : List ℕ → (k : ℕ) → Bool
 pair steps k = follows (step_at steps k) (step_at steps (k + 1))
 
 abbrev pub invariant-loop-k : goal.invariant-loop-k
-invariant-loop-k l = (l.k + 1 ≤ l.count) × (l.fit ≡ every l.k (pair l.steps))
-
-abbrev pub decreases-loop-k : goal.decreases-loop-k
-decreases-loop-k l = l.count - l.k
+invariant-loop-k l = l.fit ≡ every l.k (pair l.steps)
