@@ -7,7 +7,6 @@ ghost use Rattle.words.specs.Reading.{BodyRead};
 ghost use Rattle.lines.specs.Writing.{Appended};
 ghost use Rattle.bench_text.specs.Printed.{small, ran, body_printed, printed};
 
-use base::number::lesser;
 use checks::method::Method;
 use checks::planner::plan_code;
 use layer::numbers::layer_of;
@@ -15,19 +14,16 @@ use layer::shape::Layer;
 use layer::sizes;
 
 // Map and kernel, and no word after them.
-fn read_body(text: &[u8], at: usize, map: &mut [i16], kernel: &mut [i16]) -> bool
-    requires { at ≤ length text.now }
-    ensures { BodyRead (words_of false (drop at text.now)) (length map.old) (length kernel.old) map.new kernel.new result }
+fn read_body(text: &[u8], map: &mut [i16], kernel: &mut [i16]) -> bool
+    ensures { BodyRead (words_of false text.now) (length map.old) (length kernel.old) map.new kernel.new result }
 {
-    let after_map = words::read_values(text, at, map);
-    if !after_map.valid {
+    let Some(after_map) = words::read_numbers(text, false, map) else {
         return false;
-    }
-    let after_kernel = words::read_values(text, after_map.at, kernel);
-    if !after_kernel.valid {
+    };
+    let Some(after_kernel) = words::read_numbers(after_map, false, kernel) else {
         return false;
-    }
-    words::no_more(text, after_kernel.at)
+    };
+    words::no_more(after_kernel)
 }
 
 // Whether the field is 4 and the counts of map values, weights and outputs fit the buffers.
@@ -35,16 +31,10 @@ fn is_small(layer: Layer) -> bool
     requires { Planned layer }
     ensures { result ≡ small layer }
 {
-    if layer.field != 4 {
-        return false;
-    }
-    if sizes::map_count(layer) > 1024 {
-        return false;
-    }
-    if sizes::kernel_count(layer) > 512 {
-        return false;
-    }
-    sizes::output_count(layer) <= 1024
+    layer.field == 4
+        && sizes::map_count(layer) <= 1024
+        && sizes::kernel_count(layer) <= 512
+        && sizes::output_count(layer) <= 1024
 }
 
 // A run, and its lines. The output buffer is as long as the layer's count.
@@ -82,24 +72,23 @@ fn put_read(
     lines: &mut [u8],
     layer: Layer,
     text: &[u8],
-    at: usize,
     map: &mut [i16],
     kernel: &mut [i16],
 ) -> usize
-    requires planned { Planned layer × (small layer ≡ true) × (at ≤ length text.now) × (length lines.old ≡ 16384) }
+    requires planned { Planned layer × (small layer ≡ true) × (length lines.old ≡ 16384) }
     requires map_len { (length map.old ≡ map_count layer) × (length kernel.old ≡ kernel_count layer) }
-    ensures { Appended 0 (body_printed layer false (words_of false (drop at text.now))) lines.old lines.new result }
+    ensures { Appended 0 (body_printed layer false (words_of false text.now)) lines.old lines.new result }
 {
-    if !read_body(text, at, map, kernel) {
+    if !read_body(text, map, kernel) {
         return lines::put_unreadable(lines, 0);
     }
     put_run(lines, layer, map, kernel)
 }
 
 // The lines after a header that the planner accepts.
-fn put_body(lines: &mut [u8], layer: Layer, text: &[u8], at: usize) -> usize
-    requires { Planned layer × (at ≤ length text.now) × (length lines.old ≡ 16384) }
-    ensures { Appended 0 (body_printed layer false (words_of false (drop at text.now))) lines.old lines.new result }
+fn put_body(lines: &mut [u8], layer: Layer, text: &[u8]) -> usize
+    requires { Planned layer × (length lines.old ≡ 16384) }
+    ensures { Appended 0 (body_printed layer false (words_of false text.now)) lines.old lines.new result }
 {
     if !is_small(layer) {
         return lines::put_unreadable(lines, 0);
@@ -112,7 +101,6 @@ fn put_body(lines: &mut [u8], layer: Layer, text: &[u8], at: usize) -> usize
         lines,
         layer,
         text,
-        at,
         &mut map[..values],
         &mut kernel[..weights],
     )
@@ -124,13 +112,11 @@ pub fn answer(lines: &mut [u8; 16384], input: &[u8]) -> usize
         × (drop result lines.new ≡ drop result lines.old) }
 {
     let long = input.len() > 16384;
-    let end = lesser(input.len(), 16384);
-    let text = &input[0..end];
+    let text = &input[..input.len().min(16384)];
     let mut numbers = [0; 16];
-    let header = words::read_figures(text, long, &mut numbers[..14]);
-    if !header.valid {
+    let Some(body) = words::read_numbers(text, long, &mut numbers[..14]) else {
         return lines::put_unreadable(lines, 0);
-    }
+    };
     let layer = layer_of(&numbers);
     let code = plan_code(Method::Tiles, layer);
     if code != 0 {
@@ -139,5 +125,5 @@ pub fn answer(lines: &mut [u8; 16384], input: &[u8]) -> usize
     if long {
         return lines::put_unreadable(lines, 0);
     }
-    put_body(lines, layer, text, header.at)
+    put_body(lines, layer, body)
 }

@@ -1,5 +1,6 @@
 -- laws that the proofs share
 mod ReadNumbers
-mod ReadSigns
+mod FirstPlaces
 mod NextWords
+mod ReadSigns
 mod ReadWords

@@ -1,90 +1,104 @@
--- The next word of a text: separators are skipped one by one, then the bytes up to the next separator are gathered. It rests on the
+-- The next word of a text: separators are passed one by one, then the bytes up to the next separator are gathered. It rests on the
 -- definition of the words of a text.
-use mathlib.Core.Path.{◌≡◌, refl, sym, ap, ◌∙◌}
-use mathlib.Core.Bool.{Bool, true, false, true≢false}
-use mathlib.Core.List.{List, [], ◌∷◌, ◌++◌, append-nil}
-use Prim.Native.Nat.{ℕ, zero, suc, ◌+◌, ◌-◌, ◌≤◌, ◌<◌}
-use native.Mathlib.Decide.{dec_lt}
-use native.Mathlib.Omega.{arith}
-use lib.ListN.{length, get_or, drop, drop_of_length-le, length-take, length-drop}
-use lib.Seq.{drop-cons, append_snoc}
-use borrow.Rule.Slice.PartMut.{mid_of}
+use Rattle.std.proofs.Common.{◌≡◌, refl, sym, ap, ◌∙◌, Bool, true, false, not, List, [], ◌∷◌, ◌++◌, ℕ, suc, ◌+◌, ◌≤◌, ◌<◌, length, take, drop, append-nil, length-drop, arith}
+use Rattle.std.specs.List.{position_or_len}
+use Rattle.std.proofs.lemmas.List.{take-append-drop}
+use Rattle.std.proofs.lemmas.List.Folds.{length-prefix_len}
+use lib.Seq.{append_snoc}
 use Rattle.words.specs.Words.{is_separator, words_from, words_of}
 use Rattle.words.specs.Reading.{NextWord}
 
--- the bytes from `from` up to `to` are separators, or none is
-abbrev pub Bytes : (separators : Bool) → (text : List ℕ) → (from to : ℕ) → Type 0
-Bytes separators text from to = (i : ℕ) → from ≤ i → i < to → is_separator (get_or text i 0) ≡ separators
+-- the separators at the front of a text, and the bytes before the first separator
+abbrev pub lead : List ℕ → ℕ
+lead text = position_or_len (λ byte. not (is_separator byte)) text
 
--- ---- byte after byte
+abbrev pub gap : List ℕ → ℕ
+gap text = position_or_len is_separator text
 
-module _ (cut : Bool) (text : List ℕ) where
-  skipped : (n from to : ℕ) → from + n ≡ to → to ≤ length text → Bytes true text from to
-      → words_from cut [] (drop from text) ≡ words_from cut [] (drop to text)
-  skipped zero from to e l h = let p : from ≡ to = omega arith in rw p
-  skipped (suc n) from to e l h =
-      rw (drop-cons text from 0 (omega arith), h from (omega arith) (omega arith))
-      (skipped n (suc from) to (omega arith) l (λ i a b. h i (omega arith) b))
+drop_next : (n byte : ℕ) (text : List ℕ) → drop (1 + n) (byte ∷ text) ≡ drop n text
+drop_next n byte text = let e : 1 + n ≡ suc n = omega arith in rw e
 
-  gathered : (n from to : ℕ) (word : List ℕ) → from + n ≡ to → to ≤ length text → Bytes false text from to
-      → words_from cut word (drop from text) ≡ words_from cut (word ++ mid_of from n text) (drop to text)
-  gathered zero from to word e l h = let p : from ≡ to = omega arith in rw (append-nil word, p)
-  gathered (suc n) from to word e l h =
-      rw (drop-cons text from 0 (omega arith), h from (omega arith) (omega arith))
-      (gathered n (suc from) to (word ++ (get_or text from 0 ∷ [])) (omega arith) l (λ i a b. h i (omega arith) b)
-      ∙ ap (λ (w : List ℕ). words_from cut w (drop to text)) (append_snoc word (get_or text from 0) (mid_of (suc from) n text)))
+take_next : (n byte : ℕ) (text : List ℕ) → take (1 + n) (byte ∷ text) ≡ byte ∷ take n text
+take_next n byte text = let e : 1 + n ≡ suc n = omega arith in rw e
+
+module _ (cut : Bool) where
+  -- no word is in an empty text
+  none_left : words_from cut [] [] ≡ []
+  none_left = elim cut as (λ (c : Bool). words_from c [] [] ≡ []) [ true ↦ refl | false ↦ refl ]
+
+  pub skipped : (text : List ℕ) → words_from cut [] text ≡ words_from cut [] (drop (lead text) text)
+  skipped [] = refl
+  skipped (byte ∷ text) = go (is_separator byte) refl (skipped text)
+    where
+      go : (t : Bool) → is_separator byte ≡ t → words_from cut [] text ≡ words_from cut [] (drop (lead text) text)
+          → words_from cut [] (byte ∷ text) ≡ words_from cut [] (drop (lead (byte ∷ text)) (byte ∷ text))
+      go true e h = rw (e, drop_next (lead text) byte text) h
+      go false e h = rw e (rw e)
+
+  pub gathered : (text word : List ℕ) → words_from cut word text ≡ words_from cut (word ++ take (gap text) text) (drop (gap text) text)
+  gathered [] word = rw (append-nil word)
+  gathered (byte ∷ text) word = go (is_separator byte) refl (gathered text (word ++ (byte ∷ [])))
+    where
+      go : (t : Bool) → is_separator byte ≡ t
+          → words_from cut (word ++ (byte ∷ [])) text ≡ words_from cut ((word ++ (byte ∷ [])) ++ take (gap text) text) (drop (gap text) text)
+          → words_from cut word (byte ∷ text) ≡ words_from cut (word ++ take (gap (byte ∷ text)) (byte ∷ text)) (drop (gap (byte ∷ text)) (byte ∷ text))
+      go true e h = rw (e, append-nil word) (rw e)
+      go false e h =
+          rw (e, drop_next (gap text) byte text, take_next (gap text) byte text)
+          (h ∙ ap (λ (w : List ℕ). words_from cut w (drop (gap text) text)) (append_snoc word byte (take (gap text) text)))
 
   -- a word that was gathered is ended by a separator, or by the end of a text that is not cut off
-  ended : (word : List ℕ) (to : ℕ) → 0 < length word → (to < length text → is_separator (get_or text to 0) ≡ true)
-      → (length text ≤ to → cut ≡ false) → words_from cut word (drop to text) ≡ word ∷ words_from cut [] (drop to text)
-  ended [] to some stops whole = absurd (omega arith)
-  ended (byte ∷ word) to some stops whole = go (dec_lt to (length text))
+  pub ended : (text word : List ℕ) → 0 < length word → (length text ≤ gap text → cut ≡ false)
+      → words_from cut word (drop (gap text) text) ≡ word ∷ words_from cut [] (drop (gap text) text)
+  ended text [] some whole = absurd (omega arith)
+  ended [] (first ∷ word) some whole = rw (whole (omega arith))
+  ended (byte ∷ text) (first ∷ word) some whole = go (is_separator byte) refl whole (ended text (first ∷ word) some)
     where
-      go : Dec (to < length text) → words_from cut (byte ∷ word) (drop to text) ≡ (byte ∷ word) ∷ words_from cut [] (drop to text)
-      go (yes l) = rw (drop-cons text to 0 l, stops l)
-      go (no h) = let p : length text ≤ to = omega arith in rw (drop_of_length-le text p, whole p)
+      go : (t : Bool) → is_separator byte ≡ t → (length (byte ∷ text) ≤ gap (byte ∷ text) → cut ≡ false)
+          → ((length text ≤ gap text → cut ≡ false)
+          → words_from cut (first ∷ word) (drop (gap text) text) ≡ (first ∷ word) ∷ words_from cut [] (drop (gap text) text))
+          → words_from cut (first ∷ word) (drop (gap (byte ∷ text)) (byte ∷ text)) ≡ (first ∷ word) ∷ words_from cut [] (drop (gap (byte ∷ text)) (byte ∷ text))
+      go true e h next = rw e (rw e)
+      go false e h next = rw (e, drop_next (gap text) byte text) (next (λ l. rw e at h (omega arith)))
 
--- no word is in an empty text
-none_left : (cut : Bool) → words_from cut [] [] ≡ []
-none_left true = refl
-none_left false = refl
+  -- no byte stands before the first separator after the separators: no word is left
+  pub nothing : (text : List ℕ) → gap (drop (lead text) text) ≡ 0 → words_from cut [] text ≡ []
+  nothing [] e = none_left
+  nothing (byte ∷ text) e = go (is_separator byte) refl e (nothing text)
+    where
+      go : (t : Bool) → is_separator byte ≡ t → gap (drop (lead (byte ∷ text)) (byte ∷ text)) ≡ 0
+          → (gap (drop (lead text) text) ≡ 0 → words_from cut [] text ≡ []) → words_from cut [] (byte ∷ text) ≡ []
+      go true s e next = rw s (next (rw (s, drop_next (lead text) byte text) at e))
+      go false s e next = absurd (let l : 1 + gap text ≡ 0 = rw s at (rw s at e) in omega arith)
 
 -- ---- the next word
 
--- the bytes from `at` up to `from` are separators, and those up to `to` are none
-module _ (cut : Bool) (text : List ℕ) (at from to : ℕ) (order : (at ≤ from) × (from ≤ to) × (to ≤ length text))
-    (skips : Bytes true text at from) (gathers : Bytes false text from to) where
-  passed : words_of cut (drop at text) ≡ words_from cut [] (drop from text)
-  unfolding words_of
-  passed = skipped cut text (from - at) at from (omega arith) (omega arith) skips
+no_byte : (xs : List ℕ) → length xs ≡ 0 → xs ≡ []
+no_byte [] e = refl
+no_byte (x ∷ xs) e = absurd (omega arith)
 
-  read : words_of cut (drop at text) ≡ words_from cut (mid_of from (to - from) text) (drop to text)
-  read = passed ∙ gathered cut text (to - from) from to [] (omega arith) (omega arith) gathers
+-- a text in three parts: the separators at its front, the bytes before the next separator, and the rest
+module _ (cut : Bool) (text : List ℕ) {start bytes rest : List ℕ} (p : start ≡ drop (lead text) text) (q : bytes ≡ take (gap start) start)
+    (r : rest ≡ drop (gap start) start) where
+  pub no_bytes : length bytes ≡ 0 → words_of cut text ≡ []
+  unfolding words_of
+  no_bytes e =
+      let none : gap start ≡ 0 = sym (length-prefix_len (λ b. not (is_separator b)) start) ∙ ap length (sym q) ∙ e in
+      nothing cut text (rw p at none)
+
+  parted : words_of cut text ≡ words_from cut bytes rest
+  unfolding words_of
+  parted = skipped cut text ∙ gathered cut (drop (lead text) text) [] ∙ rw (q, r, p)
 
   -- the word touches the end of a text that is cut off
-  pub touching : cut ≡ true → to ≡ length text → NextWord cut text at (record { from = to; to = to })
-  touching e end = record {
-    order = (omega arith, omega arith, omega arith);
-    none = λ same. let p : length text ≤ to = omega arith in read ∙ rw (drop_of_length-le text p, e);
-    one = λ l. absurd (omega arith);
+  pub touching : cut ≡ true → length rest ≡ 0 → words_of cut text ≡ []
+  touching e end = parted ∙ rw (e, no_byte rest end)
+
+  pub next : 0 < length bytes → (length rest ≡ 0 → cut ≡ false) → NextWord cut text bytes rest
+  unfolding words_of
+  next some whole = record {
+    some = some;
+    before = take (lead text) text;
+    joined = sym (rw (q, r, p, take-append-drop (gap (drop (lead text) text)) (drop (lead text) text)) (take-append-drop (lead text) text));
+    one = parted ∙ rw r (ended cut start bytes some (λ l. whole (rw r (omega (arith, length-drop (gap start) start)))));
   }
-
-  module _ (starts : from < length text → is_separator (get_or text from 0) ≡ false)
-      (stops : to < length text → is_separator (get_or text to 0) ≡ true) where
-    some : from < to → 0 < length (mid_of from (to - from) text)
-    some l = simp (length-take, length-drop) (omega arith)
-
-    nothing : from ≡ to → words_from cut [] (drop from text) ≡ []
-    nothing same = go (dec_lt from (length text))
-      where
-        go : Dec (from < length text) → words_from cut [] (drop from text) ≡ []
-        go (yes l) = absurd (true≢false (sym (stops (omega arith)) ∙ rw (sym same) (starts l)))
-        go (no h) = let p : length text ≤ from = omega arith in rw (drop_of_length-le text p) (none_left cut)
-
-    pub next : (length text ≤ to → cut ≡ false) → NextWord cut text at (record { from = from; to = to })
-    unfolding words_of
-    next whole = record {
-      order = order;
-      none = λ same. passed ∙ nothing same;
-      one = λ l. read ∙ ended cut text _ to (some l) stops whole;
-    }

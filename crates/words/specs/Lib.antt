@@ -2,3 +2,5 @@
 pub mod Words
 -- what the code promises on the way
 pub mod Reading
+-- laws
+pub mod ReadingLaws

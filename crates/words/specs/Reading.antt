@@ -1,30 +1,33 @@
--- What the reader promises of a position in a text: the words from there on.
-use Rattle.std.specs.Prelude.{◌≡◌, Bool, true, ◌&&◌, cond, List, [], ◌∷◌, ℕ, ◌+◌, ◌-◌, ◌≤◌, ◌<◌, min, leb, eqb, ℤ, length, take, drop}
-use borrow.Rule.Slice.PartMut.{mid_of}
-use Rattle.words.specs.declared.number.Value.{Value}
-use Rattle.words.specs.declared.Span.{Span}
-use Rattle.words.specs.declared.Read.{Read}
-use Rattle.words.specs.Words.{words_of, every_word, is_whole, whole_value, is_value, signed_value, values_of}
+-- What the reader promises of a text: its next word, and the words that it begins with.
+use Rattle.std.specs.Prelude.{◌≡◌, Bool, true, ◌&&◌, List, ◌∷◌, ◌++◌, ℕ, ◌+◌, ◌<◌, leb, eqb, ℤ, length, take, drop, Option}
+use Rattle.std.specs.Option.{SomeIff}
+use Rattle.words.specs.Words.{words_of, every_word, whole_value, is_figure, is_value, signed_value, values_of}
 
--- the number of digits, or 65,536 where it is larger than 65,535 or no number
-unfoldable pub figure_or : List ℕ → ℕ
-figure_or word = cond (is_whole word) (min (whole_value word) 65536) 65536
+-- a word of the header is read where it is a number 0 to 65,535
+abbrev pub FigureRead : List ℕ → Option ℕ → Type 0
+FigureRead word r = SomeIff r (is_figure word ≡ true) (whole_value word)
 
-pub record SignedRead (word : List ℕ) (r : Value) : Type 0 where
-  pub reads : r.valid ≡ is_value word
-  pub value : r.valid ≡ true → r.value ≡ signed_value word
+-- a word of map or kernel is read where it is a signed number of 16 bits
+abbrev pub SignedRead : List ℕ → Option ℤ → Type 0
+SignedRead word r = SomeIff r (is_value word ≡ true) (signed_value word)
 
--- the next word from `at` on; where there is none, `from` is the length of the text
-pub record NextWord (cut : Bool) (text : List ℕ) (at : ℕ) (r : Span) : Type 0 where
-  pub order : (at ≤ r.from) × (r.from ≤ r.to) × (r.to ≤ length text)
-  pub none : r.from ≡ r.to → words_of cut (drop at text) ≡ []
-  pub one : r.from < r.to → words_of cut (drop at text) ≡ mid_of r.from (r.to - r.from) text ∷ words_of cut (drop r.to text)
+-- the text holds a word, of a byte at least, and `rest` is the text after its first one
+pub record NextWord (cut : Bool) (text word rest : List ℕ) : Type 0 where
+  pub some : 0 < length word
+  pub before : List ℕ
+  pub joined : text ≡ before ++ (word ++ rest)
+  pub one : words_of cut text ≡ word ∷ words_of cut rest
 
--- the first `count` words from `at` on pass a test, and then r stands after them
-pub record WordsRead (test : List ℕ → Bool) (cut : Bool) (text : List ℕ) (at count : ℕ) (r : Read) : Type 0 where
-  pub reads : r.valid ≡ leb count (length (words_of cut (drop at text))) && every_word test (take count (words_of cut (drop at text)))
-  pub short : r.at ≤ length text
-  pub rest : r.valid ≡ true → words_of cut (drop r.at text) ≡ drop count (words_of cut (drop at text))
+-- the first `count` words are there, and pass a test
+abbrev pub first_pass : (List ℕ → Bool) → (count : ℕ) → List (List ℕ) → Bool
+first_pass test count words = leb count (length words) && every_word test (take count words)
+
+-- the first `count` words of a text pass a test, and `rest` is the text after them
+pub record WordsRead (test : List ℕ → Bool) (cut : Bool) (text : List ℕ) (count : ℕ) (rest : List ℕ) : Type 0 where
+  pub passes : first_pass test count (words_of cut text) ≡ true
+  pub before : List ℕ
+  pub joined : text ≡ before ++ rest
+  pub after : words_of cut rest ≡ drop count (words_of cut text)
 
 -- the words of the body are the values of map and kernel, of those lengths
 pub record BodyRead (body : List (List ℕ)) (values weights : ℕ) (map kernel : List ℤ) (r : Bool) : Type 0 where

@@ -1,70 +1,65 @@
 // The number that a word is.
-ghost use Rattle.std.specs.Prelude.{◌≡◌};
-ghost use Rattle.words.specs.Reading.{figure_or, SignedRead};
+ghost use Rattle.std.specs.Prelude.{◌≡◌, true, Bool, ℕ, List};
+ghost use Rattle.std.specs.Option.{SomeIff};
+ghost use Rattle.words.specs.Words.{is_figure, whole_value, is_value, signed_value};
+ghost use Rattle.words.specs.Reading.{FigureRead, SignedRead};
 
-use base::number::lesser;
-use base::rules::is_inside;
+// A number that a word may be.
+pub trait Number: Copy {
+    // whether a word is such a number, and what it stands for
+    ghost is_number: { List ℕ → Bool };
 
-// A number that may not have been there.
-#[derive(Clone, Copy)]
-pub struct Value {
-    pub valid: bool,
-    pub value: i16,
+    ghost value_of: { List ℕ → Self };
+
+    fn from_word(word: &[u8]) -> Option<Self>
+        ensures { SomeIff result (is_number word.now ≡ true) (value_of word.now) };
 }
 
-// The number of digits in base ten; 65,536 where it is larger than 65,535, or where the word is no number. Larger numbers are all 65,536, so
-// that no sum wraps.
-pub(crate) fn whole_number(word: &[u8]) -> usize
-    ensures { result ≡ figure_or word.now }
+// A number of the header: 0 to 65,535.
+impl Number for usize {
+    ghost is_number = { is_figure };
+
+    ghost value_of = { whole_value };
+
+    fn from_word(word: &[u8]) -> Option<usize> {
+        whole_number(word).map(usize::from)
+    }
+}
+
+// A number of map or kernel: at most one minus sign, then digits; it fits 16 signed bits.
+impl Number for i16 {
+    ghost is_number = { is_value };
+
+    ghost value_of = { signed_value };
+
+    fn from_word(word: &[u8]) -> Option<i16> {
+        signed_number(word)
+    }
+}
+
+// The number of digits in base ten, where it is at most 65,535.
+fn whole_number(word: &[u8]) -> Option<u16>
+    ensures { FigureRead word.now result }
 {
-    if word.len() == 0 {
-        return 65536;
+    if word.is_empty() {
+        return None;
     }
-    let mut value = 0;
-    let mut i = 0;
-    while i < word.len() {
-        let byte = word[i] as usize;
-        if !is_inside(48, 57, byte) {
-            return 65536;
+    let mut value = 0u16;
+    for byte in word {
+        if !byte.is_ascii_digit() {
+            return None;
         }
-        value = lesser(value * 10 + (byte - 48), 65536);
-        i += 1;
+        value = value.checked_mul(10)?.checked_add(u16::from(*byte - b'0'))?;
     }
-    value
+    Some(value)
 }
 
 // A number with at most one minus sign before it, where it fits 16 signed bits.
-pub(crate) fn signed_number(word: &[u8]) -> Value
+fn signed_number(word: &[u8]) -> Option<i16>
     ensures { SignedRead word.now result }
 {
-    if word.len() == 0 {
-        return Value {
-            valid: false,
-            value: 0,
-        };
-    }
-    if word[0] == 45 {
-        let size = whole_number(&word[1..]);
-        if size > 32768 {
-            return Value {
-                valid: false,
-                value: 0,
-            };
-        }
-        return Value {
-            valid: true,
-            value: (0 - size as i32) as i16,
-        };
-    }
-    let size = whole_number(word);
-    if size > 32767 {
-        return Value {
-            valid: false,
-            value: 0,
-        };
-    }
-    Value {
-        valid: true,
-        value: size as i16,
+    match word.strip_prefix(b"-") {
+        Some(digits) => i16::try_from(-i32::from(whole_number(digits)?)).ok(),
+        None => i16::try_from(whole_number(word)?).ok(),
     }
 }

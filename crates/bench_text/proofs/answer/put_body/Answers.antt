@@ -40,7 +40,7 @@ slice_bounds-put_read-end-2 c = sym (length-take-le _ _ (kernel_fits (goal.at.sl
 pub put_read-requires : goal.put_read-requires
 put_read-requires c =
     record {
-      planned = (c.requires.0, is_small (goal.at.put_read-requires c).After-kernel_count-weights, c.requires.1, search rules);
+      planned = (c.requires.0, is_small (goal.at.put_read-requires c).After-kernel_count-weights, search rules);
       map_len = (
         length-take-le _ _ (map-fits (goal.at.put_read-requires c).After-kernel_count-weights) ∙ c.map_count-values.ensures,
         length-take-le _ _ (kernel_fits (goal.at.put_read-requires c).After-kernel_count-weights) ∙ c.kernel_count-weights.ensures,

@@ -1,6 +1,5 @@
 -- `put_read`: what was read decides whether the layer is run.
 use mathlib.Core.Bool.{false}
-use lib.ListN.{drop}
 use Rattle.layer.specs.Shape.{map_count, kernel_count}
 use Rattle.words.specs.Words.{words_of}
 use Rattle.words.specs.Reading.{BodyRead}
@@ -11,7 +10,7 @@ use Rattle.bench_text.proofs.answer.put_read.Goals.{After-read_body}
 -- map and kernel are read
 module _ (c : After-read_body) where
   read : let g = c.args in
-      BodyRead (words_of false (drop g.at g.text.now)) (map_count g.layer) (kernel_count g.layer)
+      BodyRead (words_of false g.text.now) (map_count g.layer) (kernel_count g.layer)
       c.read_body.new.map c.read_body.new.kernel c.read_body.result
   read = rw (c.requires.map_len.0, c.requires.map_len.1) at c.read_body.ensures
 

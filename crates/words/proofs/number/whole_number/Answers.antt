@@ -1,43 +1,46 @@
--- `whole_number` reads byte after byte: the value so far and the bytes left make the number of the word.
-use mathlib.Core.Path.{◌≡◌, sym, ◌∙◌}
-use mathlib.Core.Bool.{true}
-use native.Mathlib.Omega.{arith}
-use lib.ListN.{get_or}
+-- A byte that is no digit, and a value that becomes too large, end the reading.
+use Rattle.std.proofs.Common.{◌≡◌, sym, ◌∙◌, true, get_or, rules, arith}
 use Rattle.base.specs.Rules.{inside}
-use Rattle.base.specs.RulesLaws.{inside_low, inside_high}
-use Rattle.words.proofs.ReadNumbers.{figure_whole, figure_none, figure_all, figure_digit, figure_stops}
+use Rattle.words.proofs.ReadNumbers.{no_figure, left_all, left_none, left_stops, left_digit, left_large}
 use Rattle.words.proofs.number.whole_number.Goals as goal
-use Rattle.words.proofs.number.whole_number.Goals.{Else-not-is_inside}
+use Rattle.words.proofs.number.whole_number.Goals.{Else-not-is_ascii_digit}
 
-pub returns-then-word-eq0 : goal.returns-then-word-eq0
-returns-then-word-eq0 c = figure_none _ c.if-word-eq0.true
+pub returns-then-is_empty : goal.returns-then-is_empty
+returns-then-is_empty c = no_figure _ (search rules)
 
-pub loop-i-init : goal.loop-i-init
-loop-i-init c = (omega arith, omega arith, figure_whole _ (omega arith))
+pub loop-byte-init : goal.loop-byte-init
+loop-byte-init c = (omega arith, left_all _ (search rules))
 
-pub returns-then-not-is_inside : goal.returns-then-not-is_inside
-returns-then-not-is_inside c =
-    let other = sym c.is_inside.ensures ∙ c.if-not-is_inside.true in
-    sym (figure_stops _ _ c.loop-i-test.true _ other) ∙ c.loop-i.invariant.2
+pub returns-then-not-is_ascii_digit : goal.returns-then-not-is_ascii_digit
+unfolding inside
+returns-then-not-is_ascii_digit c =
+    left_stops _ _ _ c.loop-byte-test.true c.loop-byte.invariant.1 (sym c.is_ascii_digit.ensures.value ∙ c.if-not-is_ascii_digit.true)
 
 -- the byte is a digit
-digit : (c : Else-not-is_inside)
-    → inside 48 57 (get_or c.args.word.now c.loop-i.i 0) ≡ true
-digit c = sym c.is_inside.ensures ∙ c.if-not-is_inside.false
+digit : (c : Else-not-is_ascii_digit) → inside 48 57 (get_or c.args.word.now c.loop-byte.byte-index 0) ≡ true
+unfolding inside
+digit c = sym c.is_ascii_digit.ensures.value ∙ c.if-not-is_ascii_digit.false
 
-pub overflow_sub-byte : goal.overflow_sub-byte
-overflow_sub-byte c = inside_low _ _ _ (digit c)
+pub returns-in_err-checked_mul : goal.returns-in_err-checked_mul
+returns-in_err-checked_mul c =
+    let at = (goal.at.returns-in_err-checked_mul c).Else-not-is_ascii_digit in
+    let large = c.in_err-checked_mul.ensures in
+    rw c.from_residual.ensures (left_large _ _ _ c.loop-byte-test.true c.loop-byte.invariant.1 (digit at) (omega arith))
 
-pub overflow_add-value : goal.overflow_add-value
-overflow_add-value c = omega (arith, inside_high _ _ _ (digit c))
+pub returns-in_err-value : goal.returns-in_err-value
+returns-in_err-value c =
+    let at = (goal.at.returns-in_err-value c).Else-not-is_ascii_digit in
+    let large = c.in_err-value.ensures in
+    rw c.from_residual-in_err-value.ensures
+    (left_large _ _ _ c.loop-byte-test.true c.loop-byte.invariant.1 (digit at) (omega (arith, c.in_ok-checked_mul.ensures.1, c.from.ensures)))
 
-pub loop-i-preserved : goal.loop-i-preserved
-loop-i-preserved c = (
-  omega arith,
-  omega (arith, c.lesser-value.ensures),
-  rw c.lesser-value.ensures (figure_digit _ _ c.loop-i-test.true _ (digit (goal.at.loop-i-preserved c).Else-not-is_inside) ∙ c.loop-i.invariant.2),
-)
+pub loop-byte-preserved : goal.loop-byte-preserved
+loop-byte-preserved c =
+    let at = (goal.at.loop-byte-preserved c).Else-not-is_ascii_digit in (
+      omega arith,
+      rw (c.in_ok-value.ensures.1, c.in_ok-checked_mul.ensures.1, c.from.ensures)
+          (left_digit _ _ _ c.loop-byte-test.true c.loop-byte.invariant.1 (digit at)),
+    )
 
 pub returns : goal.returns
-returns c =
-    sym (figure_all _ _ _ c.loop-i-test.false c.loop-i.invariant.1) ∙ c.loop-i.invariant.2
+returns c = left_none _ _ _ (omega arith) c.loop-byte.invariant.0 c.loop-byte.invariant.1
