@@ -7,6 +7,8 @@ use Prim.Native.Nat.{ℕ, ◌+◌, ◌≤◌, ◌<◌, min}
 use native.Mathlib.Decide.{dec_lt}
 use native.Mathlib.Omega.{arith}
 use lib.ListN.{length, get_or, set, length-set}
+use Rattle.std.specs.List.{swap}
+use Rattle.std.proofs.lemmas.List.Edits.{swap_is}
 use Rattle.algebra.specs.PlacesLaws.{written_one, written_as, written_again}
 use Rattle.passes.specs.Order.{Permuted, Involution, LowerIn, Exchanged}
 
@@ -55,10 +57,11 @@ module _ {s : ℕ → ℕ} {n : ℕ} (i : Involution n s) {xs : List ℕ} (len :
 
 module _ {s : ℕ → ℕ} {n a k : ℕ} (i : Involution n s) {xs ys : List ℕ} (len : length xs ≡ n) (w : Exchanged s a k xs ys) (la : a ≤ k) where
   -- one exchange more, of the words at k and q
-  pub exchange_step : {b q : ℕ} {zs : List ℕ} → b ≡ k + 1 → s k ≡ q → k < q → k < n → zs ≡ set (set ys k (get_or ys q 0)) q (get_or ys k 0)
-      → Exchanged s a b xs zs
-  exchange_step next e d l new =
-      exchange_then i len w (rw (new, next, ← e) (exchange_one i (w.same_length ∙ len) k (omega arith) l)) la (omega arith)
+  pub exchange_step : {b q : ℕ} {zs : List ℕ} → b ≡ k + 1 → s k ≡ q → k < q → k < n → zs ≡ swap ys k q → Exchanged s a b xs zs
+  exchange_step {q = q} next e d l new =
+      let size : length ys ≡ n = w.same_length ∙ len in
+      let sets = swap_is ys k q 0 (omega arith) (omega (arith, i.within k l)) in
+      exchange_then i len w (rw (new ∙ sym sets, next, ← e) (exchange_one i size k (omega arith) l)) la (omega arith)
 
   -- k is not the lower of two
   pub exchange_skip : s k ≤ k → Exchanged s a (k + 1) xs ys

@@ -92,14 +92,11 @@ fn butterflies<B: Butterfly>(
     requires pairs_at_most { PairsAtMost residues.bound (Run at lanes) half words.old }
     ensures { Paired (λ _. StepMakes B.step residues.bits residues.bound t) (Run at lanes) half words.old words.new }
 {
-    let mut k = 0;
-    while k < lanes {
-        let p = at + k;
+    for p in at..at + lanes {
         let q = half + p;
         let pair = B::pair(words[p], words[q], t, residues);
         words[p] = pair.low;
         words[q] = pair.high;
-        k += 1;
     }
 }
 
@@ -116,14 +113,8 @@ pub(crate) fn stage<B: Butterfly>(
     requires at_most { AtMost residues.bound words.old }
     ensures { Staged B.step residues.bits residues.bound unit rows lanes half words.old words.new }
 {
-    let mut r = 1;
-    let mut at = lanes;
-    let mut t = unit;
-    while r < rows {
-        butterflies::<B>(words, at, half, lanes, t, residues);
-        r += 1;
-        at += lanes;
-        t += unit;
+    for r in 1..rows {
+        butterflies::<B>(words, r * lanes, half, lanes, unit * r as u32, residues);
     }
     butterflies::<Plain>(words, 0, half, lanes, 0, residues);
 }

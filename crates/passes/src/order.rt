@@ -1,16 +1,6 @@
 // Words that change places: indices in bit-reversed order, rows and columns.
-ghost use Rattle.std.specs.Prelude.{◌≡◌, ◌+◌, ◌*◌, ◌^◌, ◌<◌, ◌≤◌, length, get_or, set};
+ghost use Rattle.std.specs.Prelude.{◌≡◌, ◌+◌, ◌*◌, ◌^◌, ◌<◌, ◌≤◌, length};
 ghost use Rattle.passes.specs.Order.{reversed, across, Permuted, Exchanged};
-
-// The words at p and q change places.
-fn swap(words: &mut [u64], p: usize, q: usize)
-    requires { (p < length words.old) × (q < length words.old) }
-    ensures { words.new ≡ set (set words.old p (get_or words.old q 0)) q (get_or words.old p 0) }
-{
-    let u = words[p];
-    words[p] = words[q];
-    words[q] = u;
-}
 
 // The index k with its bits in reverse order.
 pub fn reverse(k: usize, halvings: u32) -> usize
@@ -19,11 +9,9 @@ pub fn reverse(k: usize, halvings: u32) -> usize
 {
     let mut r = 0;
     let mut q = k;
-    let mut t = halvings;
-    while 0 < t {
+    for _ in 0..halvings {
         r = 2 * r + q % 2;
-        q = q / 2;
-        t -= 1;
+        q /= 2;
     }
     r
 }
@@ -33,13 +21,11 @@ pub fn reorder(words: &mut [u64], halvings: u32)
     requires { (length words.old ≡ 2 ^ halvings) × (halvings ≤ 6) }
     ensures { Permuted (reversed halvings) words.old words.new }
 {
-    let mut k = 0;
-    while k < words.len() {
+    for k in 0..words.len() {
         let p = reverse(k, halvings);
         if k < p {
-            swap(words, k, p);
+            words.swap(k, p);
         }
-        k += 1;
     }
 }
 
@@ -48,10 +34,8 @@ fn swap_row(words: &mut [u64], n: usize, r: usize)
     requires { (length words.old ≡ n * n) × (r < n) }
     ensures { Exchanged (across n) (r * n) ((r + 1) * n) words.old words.new }
 {
-    let mut k = r + 1;
-    while k < n {
-        swap(words, r * n + k, k * n + r);
-        k += 1;
+    for k in r + 1..n {
+        words.swap(r * n + k, k * n + r);
     }
 }
 
@@ -60,9 +44,7 @@ pub fn transpose(words: &mut [u64], n: usize)
     requires { length words.old ≡ n * n }
     ensures { Permuted (across n) words.old words.new }
 {
-    let mut r = 0;
-    while r < n {
+    for r in 0..n {
         swap_row(words, n, r);
-        r += 1;
     }
 }

@@ -1,3 +1,4 @@
+-- In a turn, both places lie within the square, and the one above the diagonal comes first.
 use mathlib.Core.Path.{◌≡◌, ap, ◌∙◌}
 use Prim.Native.Nat.{ℕ, ◌+◌, ◌-◌, ◌*◌, ◌<◌, ◌≤◌}
 use native.Mathlib.Decide.{dec_lt}
@@ -33,8 +34,7 @@ module _ (c : In-loop-k) where
       (place_lt c.args.r k c.requires.1 c.loop-k-test.true, place_lt k c.args.r c.loop-k-test.true c.requires.1)
 
 pub loop-k-init : goal.loop-k-init
-loop-k-init c =
-    (omega arith, omega arith, exchange_none (across_involution c.args.n) c.requires.0 (λ p. not_lower c.args.n c.args.r p c.requires.1))
+loop-k-init c = exchange_none (across_involution c.args.n) c.requires.0 (λ p. not_lower c.args.n c.args.r p c.requires.1)
 
 pub overflow_mul-r : goal.overflow_mul-r
 overflow_mul-r c = omega (arith, inside (goal.at.overflow_mul-r c).In-loop-k)
@@ -45,24 +45,18 @@ overflow_add-r c = omega (arith, inside (goal.at.overflow_add-r c).In-loop-k)
 pub overflow_mul-k : goal.overflow_mul-k
 overflow_mul-k c = omega (arith, inside (goal.at.overflow_mul-k c).In-loop-k)
 
-pub overflow_add-k-in-loop-k : goal.overflow_add-k-in-loop-k
-overflow_add-k-in-loop-k c = omega (arith, inside (goal.at.overflow_add-k-in-loop-k c).In-loop-k)
-
-pub swap-requires : goal.swap-requires
-swap-requires c = (omega (arith, inside (goal.at.swap-requires c).In-loop-k), omega (arith, inside (goal.at.swap-requires c).In-loop-k))
+pub overflow_add-k : goal.overflow_add-k
+overflow_add-k c = omega (arith, inside (goal.at.overflow_add-k c).In-loop-k)
 
 pub loop-k-preserved : goal.loop-k-preserved
 loop-k-preserved c =
-    let L = c.loop-k in
-    let short = c.loop-k-test.true in (
-      omega arith,
-      omega arith,
-      exchange_step (across_involution c.args.n) c.requires.0 L.invariant.2 (omega arith) (omega arith) (across_place c.args.r L.k short)
-          (above_lt c.args.r L.k L.invariant.0 short) (inside (goal.at.loop-k-preserved c).In-loop-k).0 c.swap.ensures,
-    )
+    let loop = c.loop-k in
+    let short = c.loop-k-test.true in
+    exchange_step (across_involution c.args.n) c.requires.0 loop.invariant (omega arith) (omega arith) (across_place c.args.r loop.k short)
+    (above_lt c.args.r loop.k (omega arith) short) (inside (goal.at.loop-k-preserved c).In-loop-k).0 c.swap.ensures.after
 
 pub returns : goal.returns
 returns c =
     let a = c.args in
     let e : a.r * a.n + c.loop-k.k ≡ (a.r + 1) * a.n = omega arith in
-    rw e at c.loop-k.invariant.2
+    rw e at c.loop-k.invariant
