@@ -61,21 +61,21 @@ fn unit_of(unit: u32, level: u32) -> u32
 // second, for the first `rows` rows; the others are left as they are. Its powers: 2^(unit r) for row r, where 2^unit is the root of the pass.
 fn pass<B: Butterfly>(
     words: &mut [u64],
+    blocks: usize,
     rows: usize,
     half: usize,
     lanes: usize,
     unit: u32,
     residues: Residues,
 )
-    requires whole_blocks { WholeBlocks (length words.old) half × StageSizes (2 * half) rows lanes half unit residues.bits }
+    requires whole { (length words.old ≡ blocks * (2 * half)) × StageSizes (2 * half) rows lanes half unit residues.bits }
     requires at_most { AtMost residues.bound words.old }
     ensures { Passed B.step residues.bits residues.bound unit rows lanes half words.old words.new }
 {
-    let mut at = 0;
-    while at < words.len() {
-        let end = at + 2 * half;
-        stage::<B>(&mut words[at..end], rows, half, lanes, unit, residues);
-        at = end;
+    for block in 0..blocks {
+        let both = 2 * half;
+        let at = block * both;
+        stage::<B>(&mut words[at..at + both], rows, half, lanes, unit, residues);
     }
 }
 
@@ -102,6 +102,7 @@ pub fn transform_lanes<T: Transform>(
         let rows = filled.min(half);
         pass::<T>(
             words,
+            1 << level,
             rows,
             half * lanes,
             lanes,
