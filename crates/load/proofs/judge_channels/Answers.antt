@@ -1,4 +1,4 @@
-use mathlib.Core.Path.{◌≡◌, refl, ap, ap₂, ◌∙◌}
+use mathlib.Core.Path.{◌≡◌, ap, ap₂, ◌∙◌}
 use mathlib.Core.Bool.{◌&&◌}
 use native.Mathlib.Omega.{arith}
 use lib.Dec.{leb}
@@ -7,9 +7,6 @@ use Rattle.load.specs.Load.{loads_fit}
 use Rattle.load.specs.Blank.{none_blank}
 use Rattle.load.proofs.judge_channels.Invariants.{reached, within}
 use Rattle.load.proofs.judge_channels.Goals as goal
-
-pub loop-m-init : goal.loop-m-init
-loop-m-init c = (refl, refl)
 
 pub loop-m-preserved : goal.loop-m-preserved
 loop-m-preserved c =

@@ -1,7 +1,7 @@
 use mathlib.Core.Path.{◌≡◌, sym, ap₂, ◌∙◌}
 use mathlib.Core.List.{List}
-use Prim.Native.Nat.{ℕ, ◌*◌, ◌≤◌}
-use native.Mathlib.Nat.{mul-le-mul, mod-lt, div-lt_iff_lt-mul}
+use Prim.Native.Nat.{ℕ, ◌*◌}
+use native.Mathlib.Nat.{mod-lt, div-lt_iff_lt-mul}
 use native.Mathlib.Omega.{arith}
 use lib.Arith.{digits_div, digits_mod}
 use lib.IntN.{ℤ}
@@ -12,7 +12,6 @@ use Rattle.layer.specs.declared.shape.Layer.{Layer}
 use Rattle.load.specs.Load.{group_total, greatest_group}
 use Rattle.load.proofs.groups.greatest_group.Invariants.{total_at}
 use Rattle.load.proofs.groups.greatest_group.Goals as goal
-use Rattle.load.proofs.groups.greatest_group.Goals.{Start}
 
 greatest_in_row : (l : Layer) (kernel : List ℤ) (m : ℕ) → greatest (l.stride * l.stride) (total_at l kernel m) ≡ greatest_group l kernel m
 unfolding greatest_group
@@ -23,19 +22,6 @@ greatest_in_row l kernel m =
 
 pub loop-i-init : goal.loop-i-init
 loop-i-init c = (sym (greatest_none _), omega arith)
-
--- there are at most 16 groups
-squared : (c : Start) → c.args.layer.stride * c.args.layer.stride ≤ 16
-squared c = mul-le-mul c.requires.0.stride_most c.requires.0.stride_most
-
-pub overflow_mul-i-end : goal.overflow_mul-i-end
-overflow_mul-i-end c = omega (arith, squared (goal.at.overflow_mul-i-end c).Start)
-
-pub nonzero_div-group : goal.nonzero_div-group
-nonzero_div-group c = c.requires.0.stride_least
-
-pub nonzero_rem-group : goal.nonzero_rem-group
-nonzero_rem-group c = c.requires.0.stride_least
 
 pub group_total-requires : goal.group_total-requires
 group_total-requires c = (

@@ -17,9 +17,6 @@ use Rattle.load.proofs.groups.group_total.Goals.{In-loop-c, Start}
 area_most : (c : Start) → c.args.layer.side * c.args.layer.side ≤ 121
 area_most c = omega (arith, mul-le-mul c.requires.0.side_most c.requires.0.side_most)
 
-pub overflow_mul-area : goal.overflow_mul-area
-overflow_mul-area c = omega (arith, area_most (goal.at.overflow_mul-area c).Start)
-
 pub loop-c-init : goal.loop-c-init
 loop-c-init c = (sym (sum_none _), omega arith)
 
@@ -42,12 +39,6 @@ module _ (c : In-loop-c) where
 
   run_ends : plane * area + area ≤ length c.args.kernel.now
   run_ends = omega (arith, part_ends plane _ area plane_in, c.requires.0.weights)
-
-pub overflow_mul-from : goal.overflow_mul-from
-overflow_mul-from c = omega (arith, plane_small (goal.at.overflow_mul-from c).In-loop-c)
-
-pub overflow_add-from : goal.overflow_add-from
-overflow_add-from c = omega (arith, plane_small (goal.at.overflow_add-from c).In-loop-c)
 
 pub overflow_mul-from-in-loop-c : goal.overflow_mul-from-in-loop-c
 overflow_mul-from-in-loop-c c = omega (arith, run_ends (goal.at.overflow_mul-from-in-loop-c c).In-loop-c)

@@ -1,13 +1,8 @@
 -- `plane_sum` takes the sum of all sizes where the step is 1. It rests on the law of the whole plane.
 use mathlib.Core.Path.{◌∙◌}
-use native.Mathlib.Nat.{mul-le-mul}
 use native.Mathlib.Omega.{arith}
 use Rattle.load.proofs.GroupSums.{whole_plane}
 use Rattle.load.proofs.groups.plane_sum.Goals as goal
-
-pub size_sum-requires : goal.size_sum-requires
-size_sum-requires c =
-    omega (arith, c.requires.2, mul-le-mul c.requires.1 c.requires.1)
 
 pub returns-then-group-eq1 : goal.returns-then-group-eq1
 returns-then-group-eq1 c =

@@ -28,9 +28,6 @@ next c =
 pub loop-b-preserved : goal.loop-b-preserved
 loop-b-preserved c = next (goal.at.loop-b-preserved c).After-from-total
 
-pub loop-b-smaller : goal.loop-b-smaller
-loop-b-smaller c = omega (arith, c.requires.0.column_below)
-
 -- no column of the group is left: where it begins at the side, and where the next one is not below the side
 pub returns : goal.returns
 returns c = record { value = summed_all (omega arith) c.loop-b.invariant.0; upper_bound = c.loop-b.invariant.2 }

@@ -18,9 +18,6 @@ row_ends c = omega (arith, part_ends c.loop-a.a c.args.side c.args.side (omega a
 area_most : (c : Start) → c.args.side * c.args.side ≤ 121
 area_most c = omega (arith, mul-le-mul c.requires.1 c.requires.1)
 
-pub overflow_mul-a : goal.overflow_mul-a
-overflow_mul-a c = omega (arith, row_ends c, area_most (goal.at.overflow_mul-a c).Start)
-
 pub row_sum-total-requires : goal.row_sum-total-requires
 row_sum-total-requires c = (c.requires.0, c.requires.1, row_ends c, omega (arith, area_most (goal.at.row_sum-total-requires c).Start))
 
@@ -36,9 +33,6 @@ next c =
 
 pub loop-a-preserved : goal.loop-a-preserved
 loop-a-preserved c = next (goal.at.loop-a-preserved c).After-row_sum-total
-
-pub loop-a-smaller : goal.loop-a-smaller
-loop-a-smaller c = omega (arith, c.requires.0.row_below)
 
 -- no row of the group is left: where it begins at the side, and where the next one is not below the side
 pub returns : goal.returns
