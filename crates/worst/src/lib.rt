@@ -5,6 +5,7 @@
 ghost use Rattle.std.specs.Prelude.{◌≡◌, length};
 ghost use Rattle.worst.specs.Answer.{worst_code, worst_left};
 
+use answer::check_worst;
 use layer::shape::Layer;
 use output::worst_output;
 use values::write_map;
@@ -20,11 +21,12 @@ pub fn worst_map(layer: Layer, kernel: &[i16], map: &mut [i16]) -> usize
     ensures value { result ≡ worst_code layer kernel.now (length map.old) }
     ensures map_after { map.new ≡ worst_left layer kernel.now map.old }
 {
-    let code = answer::worst_code(layer, kernel, map.len());
-    if code != 0 {
-        return code;
+    match check_worst(layer, kernel, map.len()) {
+        Ok(()) => {
+            let output = worst_output(layer, kernel);
+            write_map(layer, kernel, output, map);
+            0
+        }
+        Err(refusal) => refusal.number(),
     }
-    let output = worst_output(layer, kernel);
-    write_map(layer, kernel, output, map);
-    0
 }

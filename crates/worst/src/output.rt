@@ -24,14 +24,12 @@ fn worst_channel(layer: Layer, kernel: &[i16]) -> usize
     let peak = layer.peak as u64;
     let mut most: u64 = 0;
     let mut channel = 0;
-    let mut m = 0;
-    while m < layer.outputs {
+    for m in 0..layer.outputs {
         let load = peak * size_total(layer, kernel, m);
         if most < load {
             most = load;
             channel = m;
         }
-        m += 1;
     }
     channel
 }
@@ -45,8 +43,8 @@ pub(crate) fn worst_output(layer: Layer, kernel: &[i16]) -> Output
     let row = layer.top + first_inside(layer, layer.height, layer.top, layer.rows);
     let column = layer.left + first_inside(layer, layer.width, layer.left, layer.columns);
     Output {
-        channel: channel,
-        row: row,
-        column: column,
+        channel,
+        row,
+        column,
     }
 }

@@ -17,12 +17,12 @@ fn value_for(weight: i16, peak: usize) -> i16
 {
     let high = peak as i16;
     if weight > 0 {
-        return high;
+        high
+    } else if weight < 0 {
+        -high
+    } else {
+        0
     }
-    if weight < 0 {
-        return 0 - high;
-    }
-    0
 }
 
 // Whether u − p is from 0 to n − 1.
@@ -60,13 +60,10 @@ fn write_row(layer: Layer, kernel: &[i16], output: Output, line: usize, map: &mu
     let c = line / layer.height;
     let i = line % layer.height;
     let start = line * layer.width;
-    let mut j = 0;
-    while j < layer.width {
+    for j in 0..layer.width {
         let weight = weight_met(layer, kernel, output, c, i, j);
         let value = value_for(weight, layer.peak);
-        let place = start + j;
-        map[place] = value;
-        j += 1;
+        map[start + j] = value;
     }
 }
 
@@ -76,9 +73,7 @@ pub(crate) fn write_map(layer: Layer, kernel: &[i16], output: Output, map: &mut 
     ensures { map.new ≡ map_for layer kernel.now output }
 {
     let lines = layer.inputs * layer.height;
-    let mut line = 0;
-    while line < lines {
+    for line in 0..lines {
         write_row(layer, kernel, output, line, map);
-        line += 1;
     }
 }

@@ -7,16 +7,15 @@ ghost use Rattle.layer.specs.Shape.{is_conv};
 ghost use Rattle.worst.specs.Window.{has_whole, first_inside};
 ghost use Rattle.worst.specs.Accepted.{CropInRange};
 
-use base::number::ceiling_div;
-use layer::shape::Layer;
+use layer::shape::{Kind, Layer};
 
 // The first row of the crop whose window does not begin before the map: ⌈P/S⌉ − top, or 0 where that is below 0.
+#[tactic(auto, using(base::specs::NumberLaws::div_ceil_is))]
 fn first_begun(layer: Layer, start: usize) -> usize
     requires { InRange layer }
     ensures { result ≡ ceiling_div layer.padding layer.stride - start }
 {
-    let least = ceiling_div(layer.padding, layer.stride);
-    if least < start { 0 } else { least - start }
+    layer.padding.div_ceil(layer.stride).saturating_sub(start)
 }
 
 // The first row of the crop whose window lies inside the map, `count` where there is none. No window ends before that of an earlier row does, so that
@@ -44,5 +43,8 @@ pub(crate) fn has_window(layer: Layer) -> bool
 {
     let row = first_inside(layer, layer.height, layer.top, layer.rows);
     let column = first_inside(layer, layer.width, layer.left, layer.columns);
-    (layer.kind == 0) & ((row < layer.rows) & (column < layer.columns))
+    match layer.kind_of() {
+        Kind::Conv => (row < layer.rows) & (column < layer.columns),
+        Kind::Tconv => false,
+    }
 }

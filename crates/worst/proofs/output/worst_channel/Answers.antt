@@ -12,7 +12,7 @@ use Rattle.worst.proofs.output.worst_channel.Goals.{After-size_total, then-most-
 
 pub loop-m-init : goal.loop-m-init
 unfolding greatest first_greatest first_where
-loop-m-init c = (omega arith, refl, refl)
+loop-m-init c = (refl, refl)
 
 pub overflow_mul-load : goal.overflow_mul-load
 overflow_mul-load c =
@@ -33,7 +33,7 @@ loop-m-preserved c =
     let loads : ℕ → ℕ = load a.layer a.kernel.now in
     let m = c.loop-m.m in
     let is = load_is (goal.at.loop-m-preserved c).After-size_total in
-    let (_, most, channel) = c.loop-m.invariant in
+    let (most, channel) = c.loop-m.invariant in
     let next : (c.if-most-load.most ≡ greatest (m + 1) loads) × (c.if-most-load.channel ≡ first_greatest (m + 1) loads) =
     elim c.if-most-load.branch [
       | then-most-load w ↦
@@ -42,9 +42,9 @@ loop-m-preserved c =
           let n = first_greatest_stays loads m (rw (is, most) at w.if-most-load.false) in (w.most-is ∙ most ∙ sym n.0, w.channel-is ∙ channel ∙ sym n.1)
     ]
     in
-    (omega arith, next.0, next.1)
+    next
 
 pub returns : goal.returns
 returns c =
     let done : c.loop-m.m ≡ c.args.layer.outputs = omega arith in
-    rw (c.loop-m.invariant.2, done)
+    rw (c.loop-m.invariant.1, done)

@@ -38,7 +38,7 @@ returns-then-weight-lt0 c =
     rw (opposite s)
     (to_z-of_z (opposite_fits s) ∙ sym (value_below c.args.peak c.args.weight (rw (word s) at c.if-weight-lt0.true)))
 
-pub returns : goal.returns
-returns c =
-    let s = (goal.at.returns c).Start in
+pub returns-else-weight-lt0 : goal.returns-else-weight-lt0
+returns-else-weight-lt0 c =
+    let s = (goal.at.returns-else-weight-lt0 c).Start in
     sym (value_none c.args.peak c.args.weight (rw (word s) at c.if-weight-gt0.false) (rw (word s) at c.if-weight-lt0.false))

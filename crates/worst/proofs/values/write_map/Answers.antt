@@ -16,26 +16,22 @@ pub overflow_mul-lines : goal.overflow_mul-lines
 overflow_mul-lines c = omega (arith, lines_high (goal.at.overflow_mul-lines c).Start)
 
 pub loop-line-init : goal.loop-line-init
-loop-line-init c = (written_nothing (λ p h. omega arith), omega arith)
+loop-line-init c = written_nothing (λ p h. omega arith)
 
 pub write_row-requires : goal.write_row-requires
 write_row-requires c =
-    (c.requires.0, c.loop-line-test.true, c.loop-line.invariant.0.same_length ∙ c.requires.1)
-
-pub overflow_add-line : goal.overflow_add-line
-overflow_add-line c =
-    omega (arith, c.loop-line-test.true, lines_high (goal.at.overflow_add-line c).Start)
+    (c.requires.0, omega arith, c.loop-line.invariant.same_length ∙ c.requires.1)
 
 pub loop-line-preserved : goal.loop-line-preserved
 loop-line-preserved c =
     let W = c.args.layer.width in
     let longer : (c.loop-line.line + 1) * W ≡ c.loop-line.line * W + W = omega arith in
-    (rw longer (written_further 0 (c.loop-line.line * W) W (omega arith) c.loop-line.invariant.0 c.write_row.ensures), omega arith)
+    rw longer (written_further 0 (c.loop-line.line * W) W (omega arith) c.loop-line.invariant c.write_row.ensures)
 
 pub returns : goal.returns
 returns c =
     let l = c.args.layer in
     let last : c.loop-line.line ≡ l.inputs * l.height = omega arith in
-    let w = rw last at c.loop-line.invariant.0 in
+    let w = rw last at c.loop-line.invariant in
     table_of (pos 0) (map_count l) (value_at l c.args.kernel.now c.args.output) c.loop-line.map (w.same_length ∙ c.requires.1)
     (λ p h. w.here p (omega (arith, c.requires.1)) (omega arith, omega arith))

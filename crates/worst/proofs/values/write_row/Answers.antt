@@ -49,26 +49,26 @@ pub overflow_mul-start : goal.overflow_mul-start
 overflow_mul-start c = omega (arith, start_high (goal.at.overflow_mul-start c).Start)
 
 pub loop-j-init : goal.loop-j-init
-loop-j-init c = (omega arith, written_nothing (λ p h. omega arith))
+loop-j-init c = written_nothing (λ p h. omega arith)
 
 pub weight_met-weight-requires : goal.weight_met-weight-requires
 weight_met-weight-requires c =
-    (c.requires.0, channel_in (goal.at.weight_met-weight-requires c).Start, row_in (goal.at.weight_met-weight-requires c).Start, c.loop-j-test.true)
+    (c.requires.0, channel_in (goal.at.weight_met-weight-requires c).Start, row_in (goal.at.weight_met-weight-requires c).Start, (omega arith))
 
 pub value_for-value-requires : goal.value_for-value-requires
 value_for-value-requires c = c.requires.0.accepted.weights.peak_most
 
-pub overflow_add-place : goal.overflow_add-place
-overflow_add-place c =
-    omega (arith, start_high (goal.at.overflow_add-place c).Start, c.loop-j-test.true, c.requires.0.accepted.plan.shape.width_high)
+pub overflow_add-value : goal.overflow_add-value
+overflow_add-value c =
+    omega (arith, start_high (goal.at.overflow_add-value c).Start, c.requires.0.accepted.plan.shape.width_high)
 
-pub offset_bounds-map-place : goal.offset_bounds-map-place
-offset_bounds-map-place c =
-    omega (arith, start_high (goal.at.offset_bounds-map-place c).Start, c.loop-j-test.true, c.requires.0.accepted.plan.shape.width_high)
+pub offset_bounds-map-start : goal.offset_bounds-map-start
+offset_bounds-map-start c =
+    omega (arith, start_high (goal.at.offset_bounds-map-start c).Start, c.requires.0.accepted.plan.shape.width_high)
 
-pub bounds-map-place : goal.bounds-map-place
-bounds-map-place c =
-    omega (arith, place_in (goal.at.bounds-map-place c).Start _ c.loop-j-test.true, c.loop-j.invariant.1.same_length)
+pub bounds-map-start : goal.bounds-map-start
+bounds-map-start c =
+    omega (arith, place_in (goal.at.bounds-map-start c).Start c.loop-j.j (omega arith), c.loop-j.invariant.same_length)
 
 pub loop-j-preserved : goal.loop-j-preserved
 loop-j-preserved c =
@@ -80,11 +80,11 @@ loop-j-preserved c =
     let made : to_z w16 (of_z w16 value) ≡ value = to_z-of_z {w = w16} (search sfits_of) in
     let is : to_z w16 (of_z w16 value) ≡ value_at (l s) a.kernel.now a.output (a.line * (l s).width + c.loop-j.j) =
     made ∙ c.value_for-value.ensures ∙ ap (value_for (l s).peak) (word ∙ c.weight_met-weight.ensures)
-    ∙ sym (value_at_lem (l s) a.kernel.now a.output (a.line / (l s).height) (a.line % (l s).height) c.loop-j.j (row_in s) c.loop-j-test.true)
+    ∙ sym (value_at_lem (l s) a.kernel.now a.output (a.line / (l s).height) (a.line % (l s).height) c.loop-j.j (row_in s) (omega arith))
     ∙ ap (λ (n : ℕ). value_at (l s) a.kernel.now a.output (n * (l s).width + c.loop-j.j)) (div-add-mod' a.line (l s).height) in
-    (omega arith, written_longer (a.line * (l s).width) c.loop-j.j _ (place_in s _ c.loop-j-test.true) c.loop-j.invariant.1 is)
+    written_longer (a.line * (l s).width) c.loop-j.j _ (place_in s c.loop-j.j (omega arith)) c.loop-j.invariant is
 
 pub returns : goal.returns
 returns c =
     let last : c.loop-j.j ≡ c.args.layer.width = omega arith in
-    rw last at c.loop-j.invariant.1
+    rw last at c.loop-j.invariant

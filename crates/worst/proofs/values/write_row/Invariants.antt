@@ -1,5 +1,5 @@
 -- `write_row` writes value after value.
-use Prim.Native.Nat.{◌*◌, ◌-◌, ◌≤◌}
+use Prim.Native.Nat.{◌*◌}
 use lib.IntN.{pos}
 use Rattle.algebra.specs.Places.{Written, Run}
 use Rattle.worst.specs.Worst.{value_at}
@@ -7,7 +7,4 @@ use Rattle.worst.proofs.values.write_row.Given as goal
 
 abbrev pub invariant-loop-j : goal.invariant-loop-j
 invariant-loop-j l =
-    (l.j ≤ l.layer.width) × Written (pos 0) (Run (l.line * l.layer.width) l.j) (value_at l.layer l.kernel l.output) l.initial.map l.map
-
-abbrev pub decreases-loop-j : goal.decreases-loop-j
-decreases-loop-j l = l.layer.width - l.j
+    Written (pos 0) (Run (l.line * l.layer.width) l.j) (value_at l.layer l.kernel l.output) l.initial.map l.map
