@@ -1,6 +1,5 @@
-// What crates on every subject lean on: numbered rules in a fixed order, small arithmetic, and words set to 0.
+// What crates on every subject lean on: numbered rules in a fixed order, and words set to 0.
 #![tactic(auto)]
 
-pub mod number;
 pub mod rules;
 pub mod words;

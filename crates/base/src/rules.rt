@@ -1,7 +1,6 @@
 // Numbered rules in a fixed order. A check function asks one rule after another: `require` and `?` hand back the first that is broken, and no later
 // rule is asked. A rule that asks for what earlier rules give thus stands behind them.
 ghost use Rattle.std.specs.Prelude.{◌≡◌};
-ghost use Rattle.base.specs.Rules.{inside, first_code, next_code};
 ghost use Rattle.base.specs.Refusals.{number_of, required, code_of};
 
 // Why a call is refused. The discriminant is the number that is answered.
@@ -63,29 +62,4 @@ pub fn code_of(checked: Result<(), Refusal>) -> usize
         Ok(()) => 0,
         Err(refusal) => refusal.number(),
     }
-}
-
-// Whether x is from low to high.
-pub fn is_inside(low: usize, high: usize, x: usize) -> bool
-    ensures { result ≡ inside low high x }
-{
-    if x < low {
-        return false;
-    }
-    x <= high
-}
-
-// The first of two codes that is not 0, or 0.
-pub fn first_code(code: usize, other: usize) -> usize
-    ensures { result ≡ first_code code other }
-{
-    if code != 0 { code } else { other }
-}
-
-// The code after one rule more.
-pub fn next(code: usize, number: usize, holds: bool) -> usize
-    ensures { result ≡ next_code code number holds }
-{
-    let answer = if holds { 0 } else { number };
-    first_code(code, answer)
 }
