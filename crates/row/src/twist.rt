@@ -29,7 +29,7 @@ fn factors_of(step: usize, powers: &PowerTable) -> [u64; 16]
     factors
 }
 
-// Each of 16 words times its factor.
+// Each of 16 words times its factor, read by its place: after a `zip` with `iter_mut`, as it was tried, the proof knows nothing of the words.
 fn times(words: &mut [u64], factors: &[u64; 16])
     requires { (length words.old ≡ 16) × AtMost (factor_most 4) words.old × ((j : ℕ) → j < 16 → get_or factors.now j 0 ≤ factor_most 4) }
     ensures { Multiplied factors.now words.old words.new }
@@ -40,8 +40,8 @@ fn times(words: &mut [u64], factors: &[u64; 16])
 }
 
 // Word j of row r times the power of the root whose exponent is j times `unit` times the frequency of the row. The factors of a row are in an
-// array of their own before the loop that multiplies, so that it works on several words at once. The rows are cut out by their places: after
-// `chunks_exact_mut`, as it was tried, the proof knows nothing of the words.
+// array of their own before the loop that multiplies, so that it works on several words at once. The rows are cut out by their places:
+// after `chunks_exact_mut`, as it was tried, the proof knows nothing of the words.
 pub(crate) fn twist(words: &mut [u64], unit: usize, powers: &PowerTable)
     requires { (length words.old ≡ 256) × (unit ≤ 255) × AtMost (factor_most 4) words.old }
     ensures { Twisted unit 16 words.old words.new }

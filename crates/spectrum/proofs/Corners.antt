@@ -1,4 +1,4 @@
--- The two transforms of a corner: what the words of each are and what they meet, and the transform of the tile that they make.
+-- The two transforms of a corner: what the words of each are, and the transform of the tile that they make.
 -- It rests on Widening for the places, and on Tiles for the second transform.
 use mathlib.Core.Path.{◌≡◌, refl, sym, ◌∙◌, subst}
 use mathlib.Core.Bool.{Bool, true, false, ◌&&◌, cond}

@@ -60,7 +60,8 @@ impl Field for F5 {
     }
 }
 
-// Adds to each of the first `count` words the product of the words `count` and twice `count` further on.
+// Adds to each of the first `count` words the product of the words `count` and twice `count` further on. The three parts stand in one buffer, so the
+// words are read by their places.
 pub fn accumulate<F: Field>(scratch: &mut [u64], count: usize)
     requires room { 3 * count ≤ length scratch.old }
     requires by_index { (i : ℕ) → i < count → get_or scratch.old i 0 < 9223372036854775808 }
@@ -72,7 +73,7 @@ pub fn accumulate<F: Field>(scratch: &mut [u64], count: usize)
     }
 }
 
-// The same in the field of that number.
+// The same in the field of that number, which is asked once and not at each word.
 pub fn accumulate_in(field: usize, scratch: &mut [u64], count: usize)
     requires le_field { (4 ≤ field) × (field ≤ 5) × (3 * count ≤ length scratch.old) }
     requires by_index { (i : ℕ) → i < count → get_or scratch.old i 0 < 9223372036854775808 }
