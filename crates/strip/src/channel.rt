@@ -1,7 +1,6 @@
 // One map channel of a strip: for each kernel row that meets a map row the transforms of both rows, and their products added to the sum. Kernel
 // rows that meet no map row are left out: those that meet an inserted row of zeros, or a row outside the map.
 ghost use Rattle.std.specs.Prelude.{◌≡◌, ℕ, ◌+◌, ◌-◌, ◌*◌, ◌≤◌, ◌<◌, length, get_or};
-ghost use Rattle.row.specs.Powers.{RootPowers};
 ghost use Rattle.spectrum.specs.Product.{settled_most, product_most};
 ghost use Rattle.layer.specs.Planned.{InRange};
 ghost use Rattle.window.specs.Shows.{Fitting};
@@ -11,8 +10,9 @@ ghost use Rattle.strip.specs.Rows.{WeightsReady, LineReady, StripLengths, AddsRo
 
 use crate::origin::StripOrigin;
 use layer::planes::planes_to;
-use layer::shape::Layer;
+use layer::shape::{Kind, Layer};
 use row::row_spectrum;
+use row::table::PowerTable;
 use spectrum::product::{accumulate, settle};
 use window::kernel::load_weights;
 use window::load_line;
@@ -23,10 +23,9 @@ fn stored_row(layer: Layer, a: usize) -> usize
     requires { a < layer.side }
     ensures { result ≡ turned_index layer a }
 {
-    if layer.kind == 0 {
-        layer.side - 1 - a
-    } else {
-        a
+    match layer.kind_of() {
+        Kind::Conv => layer.side - 1 - a,
+        Kind::Tconv => a,
     }
 }
 
@@ -37,14 +36,15 @@ fn weights_spectrum(
     kernel: &[i16],
     plane: usize,
     a: usize,
-    powers: &[u64; 256],
+    powers: &PowerTable,
 )
-    requires in_range { InRange layer × (layer.field ≡ 4) × (length words.old ≡ 256) × (a < layer.side) × RootPowers powers.now }
+    requires in_range { InRange layer × (layer.field ≡ 4) × (length words.old ≡ 256) × (a < layer.side) }
     requires kernel_len { (length kernel.now ≡ layer.outputs * layer.inputs * (layer.side * layer.side)) × (plane < layer.outputs * layer.inputs) }
     ensures { WeightsReady layer kernel.now plane a words.new }
 {
     let from = (plane * layer.side + stored_row(layer, a)) * layer.side;
-    load_weights(words, layer, kernel, from, layer.side);
+    let end = from + layer.side;
+    load_weights(words, layer, &kernel[from..end]);
     row_spectrum(words, 1, powers);
 }
 
@@ -56,13 +56,13 @@ fn line_spectrum(
     map: &[i16],
     channel: usize,
     line: usize,
-    powers: &[u64; 256],
+    powers: &PowerTable,
 )
-    requires in_range { InRange layer × (layer.field ≡ 4) × (length words.old ≡ 256) × Fitting layer 256 shown × RootPowers powers.now }
+    requires in_range { InRange layer × (layer.field ≡ 4) × (length words.old ≡ 256) × Fitting layer 256 shown }
     requires map_len { (length map.now ≡ layer.inputs * layer.height * layer.width) × (channel < layer.inputs) }
     ensures { LineReady layer shown map.now channel line words.new }
 {
-    load_line(words, 0, 256, layer, shown, map, channel, line);
+    load_line(words, layer, shown, map, channel, line);
     row_spectrum(words, 16, powers);
 }
 
@@ -77,11 +77,11 @@ fn add_row(
     c: usize,
     a: usize,
     line: usize,
-    powers: &[u64; 256],
+    powers: &PowerTable,
 )
     requires strip_lengths { StripLengths layer map.now kernel.now scratch.old × StripOriginInRange layer origin × (c < layer.inputs) × (a < layer.side) }
     requires line_value { line ≡ origin.row + (layer.side - 1 - a) }
-    requires by_index { ((i : ℕ) → i < 256 → get_or scratch.old i 0 ≤ settled_most 4 + a * product_most 4) × RootPowers powers.now }
+    requires by_index { (i : ℕ) → i < 256 → get_or scratch.old i 0 ≤ settled_most 4 + a * product_most 4 }
     ensures adds_row { AddsRow layer map.now kernel.now origin c a scratch.old scratch.new }
     ensures by_index_2 { (i : ℕ) → i < 256 → get_or scratch.new i 0 ≤ settled_most 4 + (a + 1) * product_most 4 }
 {
@@ -101,19 +101,17 @@ pub(crate) fn add_channel(
     map: &[i16],
     kernel: &[i16],
     c: usize,
-    powers: &[u64; 256],
+    powers: &PowerTable,
 )
     requires strip_lengths { StripLengths layer map.now kernel.now scratch.old × StripOriginInRange layer origin × (c < layer.inputs) }
-    requires by_index { ((i : ℕ) → i < 256 → get_or scratch.old i 0 ≤ settled_most 4) × RootPowers powers.now }
+    requires by_index { (i : ℕ) → i < 256 → get_or scratch.old i 0 ≤ settled_most 4 }
     ensures { AddsChannel layer map.now kernel.now origin c scratch.old scratch.new }
 {
-    let mut a = 0;
-    while a < layer.side {
+    for a in 0..layer.side {
         let line = origin.row + (layer.side - 1 - a);
         if has_values(layer, line) {
             add_row(scratch, layer, origin, map, kernel, c, a, line, powers);
         }
-        a += 1;
     }
     settle(&mut scratch[..256], 4);
 }

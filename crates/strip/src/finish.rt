@@ -1,7 +1,6 @@
 // A whole strip: the sum of products over all map channels, back to residues, and stored.
 ghost use Rattle.std.specs.Prelude.{◌≡◌, ℕ, ◌<◌, pos, length, get_or};
 ghost use Rattle.algebra.specs.Places.{Written, Changed};
-ghost use Rattle.row.specs.Powers.{RootPowers};
 ghost use Rattle.layer.specs.Strip.{strip_words, strip_total, strip_of};
 ghost use Rattle.layer.specs.Direct.{direct_at};
 ghost use Rattle.checks.specs.Callable.{Callable};
@@ -15,6 +14,7 @@ use crate::origin::{StripOrigin, strip_origin};
 use base::words::clear;
 use layer::shape::Layer;
 use row::recover_row;
+use row::table::PowerTable;
 
 // All map channels, one after the other.
 fn add_channels(
@@ -23,16 +23,14 @@ fn add_channels(
     origin: StripOrigin,
     map: &[i16],
     kernel: &[i16],
-    powers: &[u64; 256],
+    powers: &PowerTable,
 )
-    requires strip_lengths { StripLengths layer map.now kernel.now scratch.old × StripOriginInRange layer origin × RootPowers powers.now }
+    requires strip_lengths { StripLengths layer map.now kernel.now scratch.old × StripOriginInRange layer origin }
     requires by_index { (i : ℕ) → i < 256 → get_or scratch.old i 0 ≡ 0 }
     ensures { StripAdded layer map.now kernel.now origin layer.inputs 0 scratch.old scratch.new }
 {
-    let mut c = 0;
-    while c < layer.inputs {
+    for c in 0..layer.inputs {
         add_channel(scratch, layer, origin, map, kernel, c, powers);
-        c += 1;
     }
 }
 
@@ -41,14 +39,13 @@ fn add_channels(
 pub fn finish_strip(
     layer: Layer,
     strip: usize,
-    powers: &[u64; 256],
+    powers: &PowerTable,
     map: &[i16],
     kernel: &[i16],
     output: &mut [i32],
     scratch: &mut [u64],
 )
     requires callable { Callable strip_engine layer map.now kernel.now (length output.old) (length scratch.old) × (strip < strip_total layer) }
-    requires root_powers { RootPowers powers.now }
     ensures written { Written (pos 0) (λ p. strip_of layer p ≡ strip) (direct_at layer map.now kernel.now) output.old output.new }
     ensures changed { Changed 0 0 strip_words scratch.old scratch.new }
 {

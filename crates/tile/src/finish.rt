@@ -30,10 +30,8 @@ fn add_channels(
     ensures added { Added layer map.now kernel.now origin layer.inputs scratch.old scratch.new }
     ensures kernel_kept { KernelKept layer kernel.now origin.channel (layer.inputs - 1) scratch.new }
 {
-    let mut c = 0;
-    while c < layer.inputs {
+    for c in 0..layer.inputs {
         add_channel(scratch, layer, origin, map, kernel, c, kept);
-        c += 1;
     }
 }
 

@@ -3,15 +3,17 @@
 use mathlib.Core.Path.{◌≡◌, refl, sym, ap, ◌∙◌, subst}
 use mathlib.Core.Logic.{◌⊎◌, inl, inr, ⊎_elim}
 use mathlib.Core.List.{List}
-use Prim.Native.Nat.{ℕ, ◌+◌, ◌*◌, ◌-◌, ◌/◌, ◌<◌}
+use Prim.Native.Nat.{ℕ, ◌+◌, ◌*◌, ◌-◌, ◌/◌, ◌<◌, ◌≤◌}
 use native.Mathlib.Nat.{div-add-mod'}
 use native.Mathlib.Decide.{ℕ_discrete, dec_lt}
 use native.Mathlib.Omega.{arith}
 use lib.Dec.{T}
 use lib.IntN.{ℤ, pos}
-use lib.ListN.{length, get_or, set, length-set}
-use lib.Seq.{get_or-set_same, get_or-set_other}
+use lib.ListN.{length, get_or, set, length-set, drop, length-drop}
+use lib.Seq.{get_or-set_same, get_or-set_other, length-take-le}
+use borrow.Rule.Slice.PartMut.{mid_of, put_mid}
 use Rattle.algebra.specs.Places.{Written, Run}
+use Rattle.algebra.specs.PlacesLaws.{written_part}
 use Rattle.spectrum.specs.Value.{Word}
 use Rattle.layer.specs.Windows.{spread}
 use Rattle.layer.specs.WindowLaws.{spread_is, spread_yes}
@@ -67,32 +69,26 @@ module _ {m : ℕ} where
       go p lp h (yes e) = rw (e, get_or-set_same ys k x 0 (omega (arith, w.same_length))) one
       go p lp h (no d) = rw (get_or-set_other ys k p x 0 d) (w.here p lp (to p h d))
 
-  -- a run, one place longer
-  pub loaded_longer : {v : ℕ → ℤ} {xs ys : List ℕ} (at i x : ℕ) → at + i < length xs → Loaded m (Run at i) v xs ys → Word m (v (at + i)) x
-      → Loaded m (Run at (i + 1)) v xs (set ys (at + i) x)
-  loaded_longer at i x l w one =
-      loaded_next (at + i) x l w one (λ p h d. (h.0, omega arith)) (λ p h. (h.0, omega arith)) (omega arith, omega arith)
-
-  -- places `spacing` apart, one more
-  pub loaded_apart : {v : ℕ → ℤ} {xs ys : List ℕ} (spacing at i x : ℕ) → 0 < spacing → at + i * spacing < length xs
-      → Loaded m (λ p. T (spread spacing at i p)) v xs ys → Word m (v (at + i * spacing)) x
-      → Loaded m (λ p. T (spread spacing at (i + 1) p)) v xs (set ys (at + i * spacing) x)
-  loaded_apart spacing at i x some l w one =
-      loaded_next (at + i * spacing) x l w one before after
-      (spread_yes spacing at (i + 1) (at + i * spacing) i (omega arith) (omega arith) some (omega arith))
+  -- places `spacing` apart from the first word on, one more
+  pub loaded_apart : {v : ℕ → ℤ} {xs ys : List ℕ} (spacing i x : ℕ) → 0 < spacing → i * spacing < length xs
+      → Loaded m (λ p. T (spread spacing 0 i p)) v xs ys → Word m (v (i * spacing)) x
+      → Loaded m (λ p. T (spread spacing 0 (i + 1) p)) v xs (set ys (i * spacing) x)
+  loaded_apart spacing i x some l w one =
+      loaded_next (i * spacing) x l w one before after
+      (spread_yes spacing 0 (i + 1) (i * spacing) i (omega arith) (omega arith) some (omega arith))
     where
-      before : (p : ℕ) → T (spread spacing at (i + 1) p) → (p ≡ at + i * spacing → ⊥) → T (spread spacing at i p)
+      before : (p : ℕ) → T (spread spacing 0 (i + 1) p) → (p ≡ i * spacing → ⊥) → T (spread spacing 0 i p)
       before p t d =
-          let (low, whole, high) = spread_is spacing at (i + 1) p t in
-          let q : ℕ = (p - at) / spacing in
-          let e : q * spacing ≡ p - at = omega (arith, div-add-mod' (p - at) spacing) in
+          let (low, whole, high) = spread_is spacing 0 (i + 1) p t in
+          let q : ℕ = (p - 0) / spacing in
+          let e : q * spacing ≡ p - 0 = omega (arith, div-add-mod' (p - 0) spacing) in
           let other : (q ≡ i → ⊥) = λ same. d (omega (arith, ap (λ (k : ℕ). k * spacing) same)) in
-          spread_yes spacing at i p q low (sym e) some (omega arith)
+          spread_yes spacing 0 i p q low (sym e) some (omega arith)
 
-      after : (p : ℕ) → T (spread spacing at i p) → T (spread spacing at (i + 1) p)
+      after : (p : ℕ) → T (spread spacing 0 i p) → T (spread spacing 0 (i + 1) p)
       after p t =
-          let (low, whole, high) = spread_is spacing at i p t in
-          spread_yes spacing at (i + 1) p ((p - at) / spacing) low (omega (arith, div-add-mod' (p - at) spacing)) some (omega arith)
+          let (low, whole, high) = spread_is spacing 0 i p t in
+          spread_yes spacing 0 (i + 1) p ((p - 0) / spacing) low (omega (arith, div-add-mod' (p - 0) spacing)) some (omega arith)
 
   -- a run and the next run
   pub loaded_runs : {v : ℕ → ℤ} {xs ys zs : List ℕ} (at i k : ℕ) → Loaded m (Run at i) v xs ys → Loaded m (Run (at + i) k) v ys zs
@@ -104,3 +100,40 @@ module _ {m : ℕ} where
           → (Run at i p × (Run (at + i) k p → ⊥) × (v p ≡ v p)) ⊎ (Run (at + i) k p × (v p ≡ v p))
       go p h (yes l) = inl ((h.0, l), (λ r. omega (arith, r)), refl)
       go p h (no l) = inr ((omega arith, omega arith), refl)
+
+  -- a part of the words that was lent and came back
+  pub loaded_part : {P : ℕ → Type 0} {v : ℕ → ℤ} {xs ys : List ℕ} (a k : ℕ) → a + k ≤ length xs → Loaded m P v (mid_of a k xs) ys
+      → Loaded m (λ p. (Run a k p) × P (p - a)) (λ p. v (p - a)) xs (put_mid a k xs ys)
+  loaded_part {P} {v} {xs} {ys} a k le w = record {
+    same_length = written.same_length;
+    here = λ p l h. rw (written.here p l h) (w.here (p - a) (omega (arith, part, h.0)) h.1);
+    kept = written.kept;
+  }
+    where
+      part : length (mid_of a k xs) ≡ k
+      part = length-take-le k (drop a xs) (omega (arith, length-drop a xs))
+
+      written : Written 0 (λ p. (Run a k p) × P (p - a)) (λ p. get_or ys (p - a) 0) xs (put_mid a k xs ys)
+      written = written_part a k le (record { same_length = w.same_length; here = λ p l h. refl; kept = w.kept })
+
+  -- values apart in a part that is lent from a word on: u has them by their index
+  pub apart_lent : {u : ℕ → ℤ} {xs ys : List ℕ} (spacing begin place count : ℕ) (values : List ℤ) → 0 < spacing → place ≡ begin
+      → length values ≡ count → begin ≤ length xs → ((i : ℕ) → i < count → get_or values i (pos 0) ≡ u i)
+      → Loaded m (λ p. T (spread spacing 0 (length values) p)) (λ p. get_or values (p / spacing) (pos 0)) (mid_of begin (length xs - begin) xs) ys
+      → Loaded m (λ p. T (spread spacing place count p)) (λ p. u ((p - place) / spacing)) xs (put_mid begin (length xs - begin) xs ys)
+  apart_lent {u} {xs} spacing begin place count values some place_is size room same w =
+      loaded_as (loaded_part begin (length xs - begin) (omega arith) w)
+      (λ p l t.
+      let (low, whole, high) = spread_is spacing place count p t in
+      let there : p - begin - 0 ≡ p - place = omega arith in (
+        (
+          (omega arith, omega arith),
+          spread_yes spacing 0 (length values) (p - begin) ((p - place) / spacing) (omega arith)
+              (omega (arith, there, div-add-mod' (p - place) spacing)) some (omega (arith, high)),
+        ),
+        ap (λ (k : ℕ). get_or values ((p - k) / spacing) (pos 0)) (sym place_is) ∙ same ((p - place) / spacing) high,
+      ))
+      (λ p h.
+      let (low, whole, high) = spread_is spacing 0 (length values) (p - begin) h.1 in
+      spread_yes spacing place count p ((p - begin - 0) / spacing) (omega (arith, h.0))
+      (omega (arith, h.0, div-add-mod' (p - begin - 0) spacing)) some (omega (arith, high)))

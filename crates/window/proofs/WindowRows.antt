@@ -1,12 +1,14 @@
 -- All rows of a window are the window. It rests on the law of what a row shows (ShowsLaws).
-use mathlib.Core.Path.{◌≡◌}
+use mathlib.Core.Path.{◌≡◌, ap, ◌∙◌}
 use mathlib.Core.List.{List}
-use Prim.Native.Nat.{ℕ, ◌+◌, ◌*◌, ◌-◌, ◌/◌, ◌%◌, ◌<◌}
+use Prim.Native.Nat.{ℕ, ◌+◌, ◌*◌, ◌-◌, ◌/◌, ◌%◌, ◌<◌, ◌≤◌}
 use native.Mathlib.Nat.{zero-add}
 use native.Mathlib.Omega.{arith}
 use lib.Arith.{digits_lt, digits_div, digits_mod}
 use lib.IntN.{ℤ}
-use lib.ListN.{length, get_or}
+use lib.ListN.{length, get_or, drop, length-drop}
+use lib.Seq.{length-take-le}
+use borrow.Rule.Slice.PartMut.{mid_of, put_mid}
 use Rattle.algebra.specs.Places.{Run}
 use Rattle.fermat.specs.Field.{modulus, transform_length}
 use Rattle.spectrum.specs.Value.{Word}
@@ -16,7 +18,7 @@ use Rattle.window.specs.Window.{window_at}
 use Rattle.window.specs.Loaded.{Loaded, HoldsWindow}
 use Rattle.window.specs.Shows.{Shows, line_at}
 use Rattle.window.specs.ShowsLaws.{line_window}
-use Rattle.window.proofs.Loads.{loaded_as, loaded_runs}
+use Rattle.window.proofs.Loads.{loaded_as, loaded_runs, loaded_part}
 
 -- the value at the flat place p of a window
 abbrev pub window_of : Layer → List ℤ → (channel row column p : ℕ) → ℤ
@@ -26,27 +28,44 @@ module _ (l : Layer) (map : List ℤ) (channel row column : ℕ) where
   -- what is shown for the grid row `row + u` is the window's row u
   window_row : (s : Shown) (u p : ℕ) → Shows l (transform_length l.field) column s
       → Run (u * transform_length l.field) (transform_length l.field) p
-      → line_at l s map channel (row + u) (u * transform_length l.field) p ≡ window_of l map channel row column p
+      → line_at l s map channel (row + u) 0 (p - u * transform_length l.field) ≡ window_of l map channel row column p
   window_row s u p shows (low, high) = go (p - u * transform_length l.field) (omega arith) (omega arith)
     where
       go : (v : ℕ) → p ≡ u * transform_length l.field + v → v < transform_length l.field
-          → line_at l s map channel (row + u) (u * transform_length l.field) p ≡ window_of l map channel row column p
+          → line_at l s map channel (row + u) 0 v ≡ window_of l map channel row column p
       go v e short =
           rw (e, digits_div u short, digits_mod u short)
-          (line_window l map channel row column (transform_length l.field) s shows (u * transform_length l.field) u v short)
+          (rw (zero-add v) at (line_window l map channel row column (transform_length l.field) s shows 0 u v short))
 
-  -- one row more
-  pub next_row : {m : ℕ} {xs ys zs : List ℕ} (s : Shown) (u : ℕ) → Shows l (transform_length l.field) column s
+  -- one row more, that was lent
+  pub next_row : {m n : ℕ} {xs ys zs : List ℕ} (s : Shown) (u : ℕ) → Shows l (transform_length l.field) column s
+      → n ≡ transform_length l.field → u * n + n ≤ length xs
       → Loaded m (Run 0 (u * transform_length l.field)) (window_of l map channel row column) xs ys
-      → Loaded m (Run (u * transform_length l.field) (transform_length l.field))
-      (λ p. line_at l s map channel (row + u) (u * transform_length l.field) p) ys zs
-      → Loaded m (Run 0 ((u + 1) * transform_length l.field)) (window_of l map channel row column) xs zs
-  next_row {m} {xs} {ys} {zs} s u shows before line =
+      → Loaded m (Run 0 (length (mid_of (u * n) (u * n + n - u * n) ys))) (λ p. line_at l s map channel (row + u) 0 p)
+      (mid_of (u * n) (u * n + n - u * n) ys) zs
+      → Loaded m (Run 0 ((u + 1) * transform_length l.field)) (window_of l map channel row column) xs
+      (put_mid (u * n) (u * n + n - u * n) ys zs)
+  next_row {m} {n} {xs} {ys} {zs} s u shows n_is room before line =
       let e : u * transform_length l.field + transform_length l.field ≡ (u + 1) * transform_length l.field = omega arith in
       rw e at (loaded_runs 0 (u * transform_length l.field) (transform_length l.field) before next)
     where
-      next : Loaded m (Run (0 + u * transform_length l.field) (transform_length l.field)) (window_of l map channel row column) ys zs
-      next = rw (zero-add (u * transform_length l.field)) (loaded_as line (λ p _ h. (h, window_row s u p shows h)) (λ p h. h))
+      same : u * n ≡ u * transform_length l.field
+      same = ap (λ (k : ℕ). u * k) n_is
+
+      size : length (mid_of (u * n) (u * n + n - u * n) ys) ≡ n
+      size =
+          length-take-le (u * n + n - u * n) (drop (u * n) ys) (omega (arith, length-drop (u * n) ys, before.same_length, room)) ∙ omega arith
+
+      next : Loaded m (Run (0 + u * transform_length l.field) (transform_length l.field)) (window_of l map channel row column) ys
+          (put_mid (u * n) (u * n + n - u * n) ys zs)
+      next =
+          loaded_as (loaded_part (u * n) (u * n + n - u * n) (omega (arith, before.same_length, room)) line)
+          (λ p _ h.
+          let run : Run (u * transform_length l.field) (transform_length l.field) p = (omega arith, omega arith) in (
+            ((omega (arith, same), omega (arith, same, n_is)), (omega arith, omega (arith, same, n_is, size))),
+            ap (λ (k : ℕ). line_at l s map channel (row + u) 0 (p - k)) same ∙ window_row s u p shows run,
+          ))
+          (λ p h. (omega (arith, same, h.0), omega (arith, same, n_is, h.0)))
 
   -- all rows
   pub windowed : {xs ys : List ℕ} → length xs ≡ transform_length l.field * transform_length l.field

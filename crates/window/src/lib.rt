@@ -2,111 +2,62 @@
 // read.
 #![tactic(auto)]
 
-ghost use Rattle.std.specs.Prelude.{◌≡◌, ℕ, ◌+◌, ◌-◌, ◌*◌, ◌/◌, ◌≤◌, ◌<◌, T, pos, length, get_or};
+ghost use Rattle.std.specs.Prelude.{◌≡◌, ℕ, ◌+◌, ◌*◌, ◌≤◌, ◌<◌, length};
 ghost use Rattle.algebra.specs.Places.{Run};
 ghost use Rattle.fermat.specs.Field.{modulus, transform_length};
 ghost use Rattle.layer.specs.Planned.{InRange};
-ghost use Rattle.layer.specs.Windows.{spread};
 ghost use Rattle.window.specs.Loaded.{Loaded, HoldsWindow};
 ghost use Rattle.window.specs.Shows.{Inside, Fitting, shown_at, line_at};
 
 use base::words::clear;
 use fermat::field;
 use layer::shape::Layer;
-use runs::load_run;
 use shown::{Shown, edge_of, has_values, shown_of};
-use spectrum::value::word;
+use spaced::{load_apart, load_spaced};
 
 pub mod kernel;
-mod runs;
 pub mod shown;
+mod spaced;
 
-// The words `spacing` apart from `at` on hold `count` values, from the value `from` on.
-fn load_apart(
-    words: &mut [u64],
-    at: usize,
-    spacing: usize,
-    count: usize,
-    values: &[i16],
-    from: usize,
-    modulus: u64,
-)
-    requires spacing_nonzero { (0 < spacing) × (32768 ≤ modulus) × (modulus ≤ 4294967297) }
-    requires by_index { (i : ℕ) → i < count → (at + i * spacing < length words.old) × (from + i < length values.now) }
-    ensures { Loaded modulus (λ p. T (spread spacing at count p)) (λ p. get_or values.now (from + (p - at) / spacing) (pos 0)) words.old words.new }
+// What a row shows of a map row, and 0 elsewhere. Values side by side leave only the places before and after them to be cleared.
+fn load_row(row: &mut [u64], shown: Shown, line: &[i16], modulus: u64)
+    requires inside { Inside (length row.old) shown × (shown.spacing ≤ 4) × ((i : ℕ) → i < shown.count → shown.first + i < length line.now) }
+    requires le_modulus { (32768 ≤ modulus) × (modulus ≤ 4294967297) }
+    ensures { Loaded modulus (Run 0 (length row.old)) (λ p. shown_at shown 0 line.now shown.first p) row.old row.new }
 {
-    let mut i = 0;
-    while i < count {
-        let value = values[from + i];
-        words[at + i * spacing] = word(value, modulus);
-        i += 1;
-    }
-}
-
-// The n words from `at` on hold what is shown of the values from `from` on, and 0 elsewhere. Values side by side have a loop of their own,
-// which is compiled to many values at a time.
-fn load_row(
-    words: &mut [u64],
-    at: usize,
-    n: usize,
-    shown: Shown,
-    values: &[i16],
-    from: usize,
-    modulus: u64,
-)
-    requires n_in_bounds { (at + n ≤ length words.old) × (32768 ≤ modulus) × (modulus ≤ 4294967297) }
-    requires inside { Inside n shown × ((i : ℕ) → i < shown.count → from + i < length values.now) }
-    ensures { Loaded modulus (Run at n) (λ p. shown_at shown at values.now from p) words.old words.new }
-{
-    let begin = at + shown.begin;
-    let end = at + n;
+    let first = shown.first.min(line.len());
+    let values = &line[first..first + shown.count];
+    let n = row.len();
     if shown.spacing == 1 {
-        clear(words, at, begin);
-        load_run(words, begin, shown.count, values, from, modulus);
-        clear(words, begin + shown.count, end);
+        clear(row, 0, shown.begin);
+        load_spaced::<1>(&mut row[shown.begin..], values, modulus);
+        clear(row, shown.begin + shown.count, n);
     } else {
-        clear(words, at, end);
-        load_apart(
-            words,
-            begin,
-            shown.spacing,
-            shown.count,
-            values,
-            from,
-            modulus,
-        );
+        clear(row, 0, n);
+        load_apart(&mut row[shown.begin..], shown.spacing, values, modulus);
     }
 }
 
-// The n words from `at` on: what a row of the window shows of a map channel in the grid row `line`.
+// A row of the window: what it shows of a map channel in the grid row `line`.
 pub fn load_line(
-    words: &mut [u64],
-    at: usize,
-    n: usize,
+    row: &mut [u64],
     layer: Layer,
     shown: Shown,
     map: &[i16],
     channel: usize,
     line: usize,
 )
-    requires in_range { InRange layer × Fitting layer n shown × (at + n ≤ length words.old) }
+    requires in_range { InRange layer × Fitting layer (length row.old) shown }
     requires map_len { (length map.now ≡ layer.inputs * layer.height * layer.width) × (channel < layer.inputs) }
-    ensures { Loaded (modulus layer.field) (Run at n) (λ p. line_at layer shown map.now channel line at p) words.old words.new }
+    ensures { Loaded (modulus layer.field) (Run 0 (length row.old)) (λ p. line_at layer shown map.now channel line 0 p) row.old row.new }
 {
     if has_values(layer, line) {
         let map_row = (line - edge_of(layer)) / shown.spacing;
-        let from = (channel * layer.height + map_row) * layer.width + shown.first;
-        load_row(
-            words,
-            at,
-            n,
-            shown,
-            map,
-            from,
-            field::modulus_of(layer.field),
-        );
+        let from = (channel * layer.height + map_row) * layer.width;
+        let end = from + layer.width;
+        load_row(row, shown, &map[from..end], field::modulus_of(layer.field));
     } else {
-        clear(words, at, at + n);
+        clear(row, 0, row.len());
     }
 }
 
@@ -125,9 +76,9 @@ pub fn load_window(
 {
     let n = field::transform_length(layer.field);
     let shown = shown_of(layer, column, n);
-    let mut u = 0;
-    while u < n {
-        load_line(words, u * n, n, layer, shown, map, channel, row + u);
-        u += 1;
+    for u in 0..n {
+        let at = u * n;
+        let end = at + n;
+        load_line(&mut words[at..end], layer, shown, map, channel, row + u);
     }
 }

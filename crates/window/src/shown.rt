@@ -1,12 +1,11 @@
 // What the rows of a window show of the rows of the map, and where. It is the same for every row of the window, but for the map row.
-ghost use Rattle.std.specs.Prelude.{◌≡◌, ◌-◌, ◌≤◌};
+ghost use Rattle.std.specs.Prelude.{◌≡◌, ◌≤◌};
 ghost use Rattle.layer.specs.Planned.{InRange};
 ghost use Rattle.layer.specs.Windows.{spread};
 ghost use Rattle.window.specs.Window.{spacing, edge};
 ghost use Rattle.window.specs.Shows.{Shows};
 
-use base::number::ceiling_div;
-use layer::shape::Layer;
+use layer::shape::{Kind, Layer};
 
 // What each row of a window shows of a map row: `count` values from the value `first` on, `spacing` places apart from the place
 // `begin` on.
@@ -22,7 +21,10 @@ pub struct Shown {
 fn spacing_of(layer: Layer) -> usize
     ensures { result ≡ spacing layer }
 {
-    if layer.kind == 0 { 1 } else { layer.stride }
+    match layer.kind_of() {
+        Kind::Conv => 1,
+        Kind::Tconv => layer.stride,
+    }
 }
 
 // Grid places before the first map value.
@@ -30,18 +32,10 @@ pub(crate) fn edge_of(layer: Layer) -> usize
     requires { InRange layer }
     ensures { result ≡ edge layer }
 {
-    if layer.kind == 0 {
-        layer.padding
-    } else {
-        layer.side - 1 - layer.padding
+    match layer.kind_of() {
+        Kind::Conv => layer.padding,
+        Kind::Tconv => layer.side - 1 - layer.padding,
     }
-}
-
-// How far b lies above a, 0 where it does not.
-fn above(a: usize, b: usize) -> usize
-    ensures { result ≡ b - a }
-{
-    if a < b { b - a } else { 0 }
 }
 
 // What a row of n places of the window that begins at `column` shows.
@@ -51,11 +45,11 @@ pub fn shown_of(layer: Layer, column: usize, n: usize) -> Shown
 {
     let spacing = spacing_of(layer);
     let before = edge_of(layer);
-    let first = ceiling_div(above(before, column), spacing);
+    let first = column.saturating_sub(before).div_ceil(spacing);
     let begin = before + first * spacing - column;
-    let room = ceiling_div(n - begin, spacing);
-    let left = above(first, layer.width);
-    let count = if room < left { room } else { left };
+    let room = (n - begin).div_ceil(spacing);
+    let left = layer.width.saturating_sub(first);
+    let count = room.min(left);
     Shown {
         spacing: spacing,
         first: first,

@@ -16,7 +16,7 @@ use Rattle.strip.proofs.channel.add_channel.Goals.{After-settle, then-has_values
 
 pub loop-a-init : goal.loop-a-init
 loop-a-init c =
-    (omega arith, record { same_length = refl; bound = λ i h. omega (arith, c.requires.by_index.0 i h); adds = λ first added. added })
+    record { same_length = refl; bound = λ i h. omega (arith, c.requires.by_index i h); adds = λ first added. added }
 
 pub overflow_add-line : goal.overflow_add-line
 overflow_add-line c = omega (arith, c.requires.strip_lengths.1.row, c.requires.strip_lengths.0.plan.shape.side_high)
@@ -31,47 +31,45 @@ add_row-requires c =
           field = lent.field;
           map-length = lent.map-length;
           kernel_length = lent.kernel_length;
-          scratch_low = omega (arith, loop.invariant.1.same_length, lent.scratch_low);
+          scratch_low = omega (arith, loop.invariant.same_length, lent.scratch_low);
         },
         c.requires.strip_lengths.1,
         c.requires.strip_lengths.2,
         omega arith,
       );
       line_value = refl;
-      by_index = (loop.invariant.1.bound, c.requires.by_index.1);
+      by_index = loop.invariant.bound;
     }
 
 pub loop-a-preserved : goal.loop-a-preserved
 loop-a-preserved c =
-    let before = c.loop-a.invariant.1 in
-    let g = c.args in (
-      omega arith,
-      elim c.if-has_values.branch [
-        | then-has_values w ↦ rw w.scratch-is (record {
-          same_length = w.add_row.auto.scratch ∙ before.same_length;
-          bound = w.add_row.ensures.by_index_2;
-          adds = λ first added. w.add_row.ensures.adds_row first (before.adds first added);
-        })
-        | else-has_values w ↦ rw w.scratch-is (record {
-          same_length = before.same_length;
-          bound = λ i h. omega (arith, before.bound i h);
-          adds = λ first added.
-              added_nothing g.layer g.map.now g.kernel.now g.origin (sym c.has_values.ensures ∙ w.if-has_values.false)
-              (before.adds first added);
-        })
-      ],
-    )
+    let before = c.loop-a.invariant in
+    let g = c.args in
+    elim c.if-has_values.branch [
+      | then-has_values w ↦ rw w.scratch-is (record {
+        same_length = w.add_row.auto.scratch ∙ before.same_length;
+        bound = w.add_row.ensures.by_index_2;
+        adds = λ first added. w.add_row.ensures.adds_row first (before.adds first added);
+      })
+      | else-has_values w ↦ rw w.scratch-is (record {
+        same_length = before.same_length;
+        bound = λ i h. omega (arith, before.bound i h);
+        adds = λ first added.
+            added_nothing g.layer g.map.now g.kernel.now g.origin (sym c.has_values.ensures ∙ w.if-has_values.false)
+            (before.adds first added);
+      })
+    ]
 
 -- all kernel rows are done: the first part of scratch is lent
 lent_length : (xs ys : List ℕ) → length ys ≡ length xs → strip_words ≤ length xs → length (take 256 ys) ≡ 256
 lent_length xs ys same low = length-take-le 256 ys (omega arith)
 
 pub slice_bounds-settle-end : goal.slice_bounds-settle-end
-slice_bounds-settle-end c = omega (arith, c.loop-a.invariant.1.same_length, c.requires.strip_lengths.0.scratch_low)
+slice_bounds-settle-end c = omega (arith, c.loop-a.invariant.same_length, c.requires.strip_lengths.0.scratch_low)
 
 pub slice_bounds-settle-end-2 : goal.slice_bounds-settle-end-2
 slice_bounds-settle-end-2 c =
-    sym (lent_length c.args.scratch.now c.loop-a.scratch c.loop-a.invariant.1.same_length c.requires.strip_lengths.0.scratch_low)
+    sym (lent_length c.args.scratch.now c.loop-a.scratch c.loop-a.invariant.same_length c.requires.strip_lengths.0.scratch_low)
 
 -- and comes back
 module _ (c : After-settle) where
@@ -82,10 +80,10 @@ module _ (c : After-settle) where
   rs = c.settle.new.words
 
   room : 256 ≤ length ys
-  room = omega (arith, c.loop-a.invariant.1.same_length, c.requires.strip_lengths.0.scratch_low)
+  room = omega (arith, c.loop-a.invariant.same_length, c.requires.strip_lengths.0.scratch_low)
 
   lent : length (take 256 ys) ≡ 256
-  lent = lent_length c.args.scratch.now ys c.loop-a.invariant.1.same_length c.requires.strip_lengths.0.scratch_low
+  lent = lent_length c.args.scratch.now ys c.loop-a.invariant.same_length c.requires.strip_lengths.0.scratch_low
 
   size : length rs ≡ 256
   size = c.settle.auto.words ∙ lent
@@ -100,14 +98,14 @@ module _ (c : After-settle) where
 
 pub shape_of-scratch : goal.shape_of-scratch
 shape_of-scratch c =
-    (back (goal.at.shape_of-scratch c).After-settle).same_length ∙ c.loop-a.invariant.1.same_length
+    (back (goal.at.shape_of-scratch c).After-settle).same_length ∙ c.loop-a.invariant.same_length
 
 pub returns : goal.returns
 returns c first added =
     let loop = c.loop-a in
     let g = c.args in
     let settled = (goal.at.returns c).After-settle in
-    let all : loop.a ≡ g.layer.side = omega (arith, loop.invariant.0, c.loop-a-test.false) in
+    let all : loop.a ≡ g.layer.side = omega (arith, loop.auto.a-end, c.loop-a-test.false) in
     added_channel g.layer g.map.now g.kernel.now g.origin
-    (subst (λ (a : ℕ). StripAdded g.layer g.map.now g.kernel.now g.origin g.c a first loop.scratch) all (loop.invariant.1.adds first added))
+    (subst (λ (a : ℕ). StripAdded g.layer g.map.now g.kernel.now g.origin g.c a first loop.scratch) all (loop.invariant.adds first added))
     (down settled) (back settled)

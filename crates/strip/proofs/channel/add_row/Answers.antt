@@ -52,7 +52,7 @@ weights_spectrum-requires c =
     let lent = c.requires.strip_lengths.0 in
     let length = part_length 256 256 c.args.scratch.now (omega (arith, lent.scratch_low)) in
     record {
-      in_range = (lent.plan.shape, lent.field, length, c.requires.strip_lengths.3, c.requires.by_index.1);
+      in_range = (lent.plan.shape, lent.field, length, c.requires.strip_lengths.3);
       kernel_len = (lent.kernel_length, plane_lt (goal.at.weights_spectrum-requires c).After-planes_to-planes);
     }
 
@@ -80,7 +80,7 @@ line_spectrum-requires c =
     let lent = c.requires.strip_lengths.0 in
     let length = window_length c.args.scratch.now c.weights_spectrum.new.words lent.scratch_low c.weights_spectrum.auto.words in
     record {
-      in_range = (lent.plan.shape, lent.field, length, c.requires.strip_lengths.1.shows.fitting, c.requires.by_index.1);
+      in_range = (lent.plan.shape, lent.field, length, c.requires.strip_lengths.1.shows.fitting);
       map_len = (lent.map-length, c.requires.strip_lengths.2);
     }
 
@@ -122,7 +122,7 @@ accumulate-requires c =
     let ready = both (goal.at.accumulate-requires c).After-line_spectrum in
     let (field, (small, most)) =
     accumulate_asks g.layer g.map.now g.kernel.now g.origin ready
-    (omega (arith, c.requires.strip_lengths.3, c.requires.strip_lengths.0.plan.shape.side_high)) c.requires.by_index.0 in
+    (omega (arith, c.requires.strip_lengths.3, c.requires.strip_lengths.0.plan.shape.side_high)) c.requires.by_index in
     record { le_field = field; by_index = small; by_index_2 = most }
 
 pub returns : goal.returns
@@ -133,5 +133,5 @@ returns c =
     record {
       adds_row = added_row g.layer g.map.now g.kernel.now g.origin ready
           (omega (arith, c.requires.strip_lengths.0.plan.shape.side_high)) adds c.accumulate.auto.scratch;
-      by_index_2 = λ i h. omega (arith, adds.bound i h, ready.changed.before i h, c.requires.by_index.0 i h);
+      by_index_2 = λ i h. omega (arith, adds.bound i h, ready.changed.before i h, c.requires.by_index i h);
     }

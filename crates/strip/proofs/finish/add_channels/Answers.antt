@@ -1,20 +1,17 @@
-use mathlib.Core.Path.{◌≡◌, subst}
-use Prim.Native.Nat.{ℕ}
 use native.Mathlib.Omega.{arith}
 use Rattle.algebra.specs.PlacesLaws.{changed_nothing}
-use Rattle.strip.specs.Rows.{StripAdded}
 use Rattle.strip.proofs.Adding.{added_none}
 use Rattle.strip.proofs.finish.add_channels.Goals as goal
 
 pub loop-c-init : goal.loop-c-init
 loop-c-init c =
     let g = c.args in
-    (omega arith, added_none g.layer g.map.now g.kernel.now g.origin changed_nothing c.requires.by_index)
+    added_none g.layer g.map.now g.kernel.now g.origin changed_nothing c.requires.by_index
 
 pub add_channel-requires : goal.add_channel-requires
 add_channel-requires c =
     let lent = c.requires.strip_lengths.0 in
-    let sum = c.loop-c.invariant.1 in record {
+    let sum = c.loop-c.invariant in record {
       strip_lengths = (
         record {
           plan = lent.plan;
@@ -26,16 +23,8 @@ add_channel-requires c =
         c.requires.strip_lengths.1,
         omega arith,
       );
-      by_index = (λ i h. omega (arith, sum.bound i h), c.requires.strip_lengths.2);
+      by_index = λ i h. omega (arith, sum.bound i h);
     }
 
 pub loop-c-preserved : goal.loop-c-preserved
-loop-c-preserved c =
-    (omega arith, c.add_channel.ensures c.args.scratch.now c.loop-c.invariant.1)
-
-pub returns : goal.returns
-returns c =
-    let loop = c.loop-c in
-    let g = c.args in
-    let all : loop.c ≡ g.layer.inputs = omega arith in
-    subst (λ (count : ℕ). StripAdded g.layer g.map.now g.kernel.now g.origin count 0 g.scratch.now loop.scratch) all loop.invariant.1
+loop-c-preserved c = c.add_channel.ensures c.args.scratch.now c.loop-c.invariant

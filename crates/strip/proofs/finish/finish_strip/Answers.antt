@@ -34,7 +34,6 @@ add_channels-requires c =
           scratch_low = omega (arith, none.same_length, callable.scratch_low);
         },
         c.strip_origin-origin.ensures.1,
-        c.requires.root_powers,
       );
       by_index = λ i h. none.here i (omega (arith, callable.scratch_low)) (omega arith, omega arith);
     }
@@ -67,7 +66,6 @@ recover_row-requires c =
       (λ i h.
           let below : i < 256 = omega (arith, length) in
           omega (arith, get_or-take 256 (ys all) i 0 below, c.add_channels.ensures.bound i below)),
-      c.requires.root_powers,
     )
 
 -- the strip's words
