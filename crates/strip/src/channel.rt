@@ -13,7 +13,7 @@ use layer::planes::planes_to;
 use layer::shape::{Kind, Layer};
 use row::row_spectrum;
 use row::table::PowerTable;
-use spectrum::product::{accumulate, settle};
+use spectrum::product::{F4, accumulate, settle};
 use window::kernel::load_weights;
 use window::load_line;
 use window::shown::{Shown, has_values};
@@ -90,7 +90,7 @@ fn add_row(
     let shown = origin.shown;
     weights_spectrum(&mut scratch[256..512], layer, kernel, plane, a, powers);
     line_spectrum(&mut scratch[512..768], layer, shown, map, c, line, powers);
-    accumulate(scratch, 256, 4);
+    accumulate::<F4>(scratch, 256);
 }
 
 // Map channel c is added to the sum, which is that of the channels before. The sum is brought down after it, so that it stays small whatever C is.
@@ -113,5 +113,5 @@ pub(crate) fn add_channel(
             add_row(scratch, layer, origin, map, kernel, c, a, line, powers);
         }
     }
-    settle(&mut scratch[..256], 4);
+    settle::<F4>(&mut scratch[..256]);
 }

@@ -8,7 +8,7 @@ use crate::origin::Origin;
 use fermat::field;
 use layer::planes::planes_to;
 use layer::shape::Layer;
-use spectrum::product::accumulate;
+use spectrum::product::accumulate_in;
 use spectrum::{corner_spectrum, tile_spectrum};
 use window::kernel::load_kernel;
 use window::load_window;
@@ -86,5 +86,5 @@ pub(crate) fn add_channel(
         origin.row,
         origin.column,
     );
-    accumulate(scratch, area, layer.field);
+    accumulate_in(layer.field, scratch, area);
 }

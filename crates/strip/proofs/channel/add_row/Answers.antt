@@ -123,7 +123,7 @@ accumulate-requires c =
     let (field, (small, most)) =
     accumulate_asks g.layer g.map.now g.kernel.now g.origin ready
     (omega (arith, c.requires.strip_lengths.3, c.requires.strip_lengths.0.plan.shape.side_high)) c.requires.by_index in
-    record { le_field = field; by_index = small; by_index_2 = most }
+    record { room = field.2; by_index = small; by_index_2 = most }
 
 pub returns : goal.returns
 returns c =

@@ -152,10 +152,10 @@ both c =
     c.ready_kernel.new.words c.ready_kernel.auto.words c.window_spectrum.new.words c.window_spectrum.auto.words)
     (rw (c.planes_to-planes.ensures g.c) at c.ready_kernel.ensures) c.window_spectrum.ensures
 
-pub accumulate-requires : goal.accumulate-requires
-accumulate-requires c =
+pub accumulate_in-requires : goal.accumulate_in-requires
+accumulate_in-requires c =
     let g = c.args in
-    let ready = both (goal.at.accumulate-requires c).After-window_spectrum in
+    let ready = both (goal.at.accumulate_in-requires c).After-window_spectrum in
     let (sizes, words) =
     accumulate_asks g.layer g.map.now g.kernel.now g.origin c.requires.lent_lengths.0.plan ready
     (area_is g.layer c.transform_length-n.ensures) c.requires.lent_lengths.2 c.requires.by_index in
@@ -168,6 +168,6 @@ returns c =
     let is = area_is g.layer c.transform_length-n.ensures in
     let ready = both (goal.at.returns c).After-window_spectrum in
     record {
-      adds = added_next g.layer g.map.now g.kernel.now g.origin plan ready is c.accumulate.ensures c.accumulate.auto.scratch;
-      kernel_kept_2 = kernel_added g.layer g.map.now g.kernel.now g.origin ready is c.accumulate.ensures;
+      adds = added_next g.layer g.map.now g.kernel.now g.origin plan ready is c.accumulate_in.ensures c.accumulate_in.auto.scratch;
+      kernel_kept_2 = kernel_added g.layer g.map.now g.kernel.now g.origin ready is c.accumulate_in.ensures;
     }
