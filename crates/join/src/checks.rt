@@ -3,13 +3,12 @@ ghost use Rattle.std.specs.Prelude.{◌≡◌, ◌≤◌, length};
 ghost use Rattle.base.specs.Rules.{first_broken};
 ghost use Rattle.base.specs.Refusals.{code_of};
 ghost use Rattle.layer.specs.Shape.{kernel_count};
-ghost use Rattle.joined.specs.Joinable.{Joinable};
 ghost use Rattle.joined.specs.Joined.{joined_layer};
 ghost use Rattle.join.specs.Answer.{filter_rules, pair_rules, shape_rules, fits, weights_fit, join_code};
 
 use base::rules::{Refusal, require};
 use joined::places::joined_layer;
-use joined::weight::weight_at;
+use joined::weight::Filters;
 use layer::shape::Layer;
 use layer::sizes;
 
@@ -62,17 +61,11 @@ fn is_weight(value: i64) -> bool
 }
 
 // Whether every weight of the joined kernel fits, `count` of them.
-fn weights_fit(
-    first: Layer,
-    first_kernel: &[i16],
-    second: Layer,
-    second_kernel: &[i16],
-    count: usize,
-) -> bool
-    requires { Joinable first (length first_kernel.now) second (length second_kernel.now) × (count ≡ kernel_count (joined_layer first second)) }
-    ensures { result ≡ weights_fit first first_kernel.now second second_kernel.now }
+fn weights_fit(filters: &Filters, count: usize) -> bool
+    requires { count ≡ kernel_count (joined_layer filters.now.first filters.now.second) }
+    ensures { result ≡ weights_fit filters.now.first filters.now.first_kernel.now filters.now.second filters.now.second_kernel.now }
 {
-    (0..count).all(|p| is_weight(weight_at(first, first_kernel, second, second_kernel, p)))
+    (0..count).all(|p| is_weight(filters.weight_at(p)))
 }
 
 // 26, 27 and 28. `room` is the length of `joined`, whose contents no check reads.
@@ -86,8 +79,11 @@ pub(crate) fn check_join(
     ensures { code_of result ≡ join_code first first_kernel.now second second_kernel.now room }
 {
     check_shape(first, first_kernel.len(), second, second_kernel.len(), room)?;
-    require(
-        Refusal::JoinedWeight,
-        weights_fit(first, first_kernel, second, second_kernel, room),
-    )
+    let filters = Filters {
+        first,
+        first_kernel,
+        second,
+        second_kernel,
+    };
+    require(Refusal::JoinedWeight, weights_fit(&filters, room))
 }

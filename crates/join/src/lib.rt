@@ -4,31 +4,23 @@
 
 ghost use Rattle.std.specs.Prelude.{◌≡◌, true, length};
 ghost use Rattle.layer.specs.Shape.{kernel_count};
-ghost use Rattle.joined.specs.Joinable.{Joinable};
 ghost use Rattle.joined.specs.Joined.{joined_layer, joined_kernel};
 ghost use Rattle.join.specs.Answer.{weights_fit, join_code, join_left};
 
 use base::rules::code_of;
-use joined::weight::weight_at;
+use joined::weight::Filters;
 use layer::shape::Layer;
 
 mod checks;
 
 // Writes every weight; each was found to fit.
-fn write_weights(
-    first: Layer,
-    first_kernel: &[i16],
-    second: Layer,
-    second_kernel: &[i16],
-    joined: &mut [i16],
-)
-    requires joinable { Joinable first (length first_kernel.now) second (length second_kernel.now) }
-    requires joined_len { length joined.old ≡ kernel_count (joined_layer first second) }
-    requires second_kernel_value { weights_fit first first_kernel.now second second_kernel.now ≡ true }
-    ensures { joined.new ≡ joined_kernel first first_kernel.now second second_kernel.now }
+fn write_weights(filters: &Filters, joined: &mut [i16])
+    requires joined_len { length joined.old ≡ kernel_count (joined_layer filters.now.first filters.now.second) }
+    requires second_kernel_value { weights_fit filters.now.first filters.now.first_kernel.now filters.now.second filters.now.second_kernel.now ≡ true }
+    ensures { joined.new ≡ joined_kernel filters.now.first filters.now.first_kernel.now filters.now.second filters.now.second_kernel.now }
 {
     for (p, value) in joined.iter_mut().enumerate() {
-        *value = weight_at(first, first_kernel, second, second_kernel, p) as i16;
+        *value = filters.weight_at(p) as i16;
     }
 }
 
@@ -46,7 +38,13 @@ pub fn join(
 {
     let checked = checks::check_join(first, first_kernel, second, second_kernel, joined.len());
     if checked.is_ok() {
-        write_weights(first, first_kernel, second, second_kernel, joined);
+        let filters = Filters {
+            first,
+            first_kernel,
+            second,
+            second_kernel,
+        };
+        write_weights(&filters, joined);
     }
     code_of(checked)
 }

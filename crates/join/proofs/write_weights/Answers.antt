@@ -14,7 +14,7 @@ word c = to_z-of_z {w = w64} {z = c.weight_at.result} (sfits_of c.weight_at.type
 
 weight_fits : (c : After-weight_at) → SFits w16 c.weight_at.result
 weight_fits c =
-    let a = c.args in
+    let a = c.args.filters.now in
     let fit = c.requires.second_kernel_value in
     rw c.weight_at.ensures.0
     (fit_sfits _ (weight_fit a.first a.first_kernel.now a.second a.second_kernel.now fit (omega (arith, c.requires.joined_len))))
@@ -24,7 +24,7 @@ overflow_cast-value c = rw (word c) (weight_fits c)
 
 pub loop-p-preserved : goal.loop-p-preserved
 loop-p-preserved c =
-    let a = c.args in
+    let a = c.args.filters.now in
     let made : to_z w16 (of_z w16 (to_z w64 (of_z w64 c.weight_at.result))) ≡ joined_at a.first a.first_kernel.now a.second a.second_kernel.now c.loop-p.p
     = rw (word c) (to_z-of_z (weight_fits c) ∙ c.weight_at.ensures.0) in
     search rules
@@ -32,5 +32,5 @@ loop-p-preserved c =
 pub returns : goal.returns
 returns c =
     let loop = c.loop-p in
-    let count : length loop.joined ≡ kernel_count (joined_layer c.args.first c.args.second) = omega (arith, c.requires.joined_len) in
+    let count : length loop.joined ≡ kernel_count (joined_layer c.args.filters.now.first c.args.filters.now.second) = omega (arith, c.requires.joined_len) in
     table_of (pos 0) _ _ loop.joined count (λ p l. loop.invariant p (omega arith))

@@ -21,10 +21,15 @@ returns-in_err-check_shape c =
     let s = (goal.at.returns-in_err-check_shape c).Start in
     handed_on _ _ c.from_residual.ensures (first_refuses (shape-rules s) (weight-rules s) _ c.in_err-check_shape.ensures)
 
+pub invariant_of-filters : goal.invariant_of-filters
+invariant_of-filters c =
+    let a = c.args in
+    record { joinable = (joinable a.first (length a.first_kernel.now) a.second (length a.second_kernel.now) a.room (sym c.in_ok-check_shape.ensures)).0 }
+
 pub weights_fit-requires : goal.weights_fit-requires
 weights_fit-requires c =
     let a = c.args in
-    joinable a.first (length a.first_kernel.now) a.second (length a.second_kernel.now) a.room (sym c.in_ok-check_shape.ensures)
+    (joinable a.first (length a.first_kernel.now) a.second (length a.second_kernel.now) a.room (sym c.in_ok-check_shape.ensures)).1
 
 pub returns : goal.returns
 unfolding join_code

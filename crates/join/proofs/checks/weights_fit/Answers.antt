@@ -34,7 +34,8 @@ all-range test a (suc n) =
 pub returns : goal.returns
 unfolding weights_fit
 returns c =
-    let a = c.args in
+    let a = c.args.filters.now in
+    let count = c.args.count in
     let test : ℕ → Bool = λ p. fits (joined_at a.first a.first_kernel.now a.second a.second_kernel.now p) in
-    let found = all_from_yields_List test _ _ c.all.result c.all.ensures.ran (YieldsList-from_range 0 a.count a.count (cc) (omega arith)) (λ x b q k. search (rules, tests)) in
-    found ∙ all-range test 0 a.count ∙ every_cong a.count _ _ (λ i l. ap test (omega arith)) ∙ ap (λ (n : ℕ). every n test) c.requires.1
+    let found = all_from_yields_List test _ _ c.all.result c.all.ensures.ran (YieldsList-from_range 0 count count (cc) (omega arith)) (λ x b q k. search (rules, tests)) in
+    found ∙ all-range test 0 count ∙ every_cong count _ _ (λ i l. ap test (omega arith)) ∙ ap (λ (n : ℕ). every n test) c.requires
