@@ -10,6 +10,7 @@ ghost use Rattle.steps.specs.Runnable.{Taken, Roomy};
 ghost use Rattle.sequence.specs.Sequence.{sums_of, map_after};
 ghost use Rattle.sequence.specs.Ready.{RunReady, LevelsReady};
 
+use checks::method::Method;
 use layer::sizes;
 use steps::kernels::kernel_of;
 use steps::step::step_at;
@@ -30,7 +31,8 @@ fn layer_sums(
     let values = sizes::map_count(layer);
     let outputs = sizes::output_count(layer);
     let kernel = kernel_of(steps, kernels, k);
-    engine::run(
+    engine::run_by(
+        Method::Tiles,
         layer,
         &map[..values],
         kernel,
@@ -65,11 +67,9 @@ pub(crate) fn grow(
     ensures { last.new ≡ map_after (step_at steps.now) map.now kernels.now count }
 {
     layer_sums(steps, 0, map, kernels, output, scratch);
-    let mut k = 0;
-    while k + 1 < count {
-        layer_levels(steps, k, output, work);
-        k += 1;
+    for k in 1..count {
+        layer_levels(steps, k - 1, output, work);
         layer_sums(steps, k, work, kernels, output, scratch);
     }
-    layer_levels(steps, k, output, last);
+    layer_levels(steps, count - 1, output, last);
 }

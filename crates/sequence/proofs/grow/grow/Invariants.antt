@@ -1,15 +1,14 @@
--- Turn after turn: step k was run, its levels become the map of step k + 1, and that is run.
-use mathlib.Core.Path.{◌≡◌}
-use Prim.Native.Nat.{◌-◌, ◌<◌}
-use lib.ListN.{length}
+-- Turn after turn: the step before k was run; its levels become the map of step k, and that is run.
+use Rattle.std.proofs.Common.{◌≡◌, ◌-◌, length}
 use Rattle.steps.specs.Steps.{step_at}
 use Rattle.sequence.specs.Ready.{Ran}
 use Rattle.sequence.proofs.grow.grow.Given as goal
 
 abbrev pub invariant-loop-k : goal.invariant-loop-k
 invariant-loop-k l =
-    (l.k < l.count) × Ran (step_at l.steps) l.map l.kernels l.k l.output
-    × (length l.work ≡ length l.initial.work) × (length l.output ≡ length l.initial.output) × (length l.scratch ≡ length l.initial.scratch)
-
-abbrev pub decreases-loop-k : goal.decreases-loop-k
-decreases-loop-k l = l.count - l.k
+    record {
+      ran : Ran (step_at l.steps) l.map l.kernels (l.k - 1) l.output;
+      work_long : length l.work ≡ length l.initial.work;
+      output_long : length l.output ≡ length l.initial.output;
+      scratch_long : length l.scratch ≡ length l.initial.scratch;
+    }

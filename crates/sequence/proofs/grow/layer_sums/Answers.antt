@@ -33,16 +33,16 @@ map_count-values-requires c = (planned_layer (goal.at.map_count-values-requires 
 pub output_count-outputs-requires : goal.output_count-outputs-requires
 output_count-outputs-requires c = planned_layer (goal.at.output_count-outputs-requires c).After-step_at
 
-pub slice_bounds-run-end : goal.slice_bounds-run-end
-slice_bounds-run-end c = sym (length-take-le _ _ (values_in_lem (goal.at.slice_bounds-run-end c).After-map_count-values))
+pub slice_bounds-run_by-end : goal.slice_bounds-run_by-end
+slice_bounds-run_by-end c = sym (length-take-le _ _ (values_in_lem (goal.at.slice_bounds-run_by-end c).After-map_count-values))
 
-pub slice_bounds-run-end-2 : goal.slice_bounds-run-end-2
-slice_bounds-run-end-2 c = outputs_in (goal.at.slice_bounds-run-end-2 c).After-output_count-outputs
+pub slice_bounds-run_by-end-2 : goal.slice_bounds-run_by-end-2
+slice_bounds-run_by-end-2 c = outputs_in (goal.at.slice_bounds-run_by-end-2 c).After-output_count-outputs
 
-pub slice_bounds-run-end-3 : goal.slice_bounds-run-end-3
-slice_bounds-run-end-3 c = sym (length-take-le _ _ (outputs_in (goal.at.slice_bounds-run-end-3 c).After-output_count-outputs))
+pub slice_bounds-run_by-end-3 : goal.slice_bounds-run_by-end-3
+slice_bounds-run_by-end-3 c = sym (length-take-le _ _ (outputs_in (goal.at.slice_bounds-run_by-end-3 c).After-output_count-outputs))
 
 pub returns : goal.returns
 returns c =
     sums_left c.args.output.now c.step_at.ensures c.map_count-values.ensures c.output_count-outputs.ensures c.kernel_of-kernel.ensures
-    c.requires c.run.ensures
+    c.requires c.run_by.ensures
