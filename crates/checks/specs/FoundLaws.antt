@@ -1,7 +1,7 @@
 -- Laws of what a check finds: what `?` hands on of a refusal without a place, and of one that has its place.
 use Rattle.std.specs.Prelude.{◌≡◌, List, ℕ, ℤ, T, Result, Ok, Err}
 use Rattle.std.specs.Result.{IsErr, IsErrAnd}
-use Rattle.std.proofs.Common.{sym, ap, ◌∙◌}
+use Rattle.std.proofs.Common.{ap, ◌∙◌}
 use Rattle.base.specs.declared.rules.Refusal.{Refusal}
 use Rattle.base.specs.Refusals.{number_of}
 use Rattle.base.specs.Rules.{Rule, first_broken}

@@ -88,7 +88,7 @@ pub fn check_plan(method: Method, layer: Layer) -> Result<(), Refusal>
     check_output(layer)
 }
 
-// The first of the rules 1 to 9 and 23 that is broken, or 0.
+// The first of the rules 1 to 9 and 23 that is broken, or 0: what the crates above answer by number.
 pub fn plan_code(method: Method, layer: Layer) -> usize
     ensures { result ≡ plan_code (engine_of method) layer }
 {

@@ -1,6 +1,6 @@
 -- The rules are asked in five lists: those of the planner, 10 to 14, 15 and 25, 24 and 16, and 17. Each list is asked where those before it are kept.
 use mathlib.Core.Path.{◌≡◌, refl, sym, ap, ◌∙◌}
-use mathlib.Core.List.{List, [], ◌++◌}
+use mathlib.Core.List.{List, ◌++◌}
 use Prim.Native.Nat.{ℕ}
 use borrow.Author.Tests.{eqb-true}
 use lib.Dec.{leb}
@@ -11,14 +11,13 @@ use Rattle.base.specs.Rules.{Rule, first_broken}
 use Rattle.base.specs.RulesLaws.{none_broken, inside_high}
 use Rattle.base.specs.RefusalsLaws.{first_refuses, second_decides, passes, breaks}
 use Rattle.layer.specs.Planned.{Planned}
-use Rattle.layer.specs.Shape.{map_count, kernel_count}
+use Rattle.layer.specs.Shape.{kernel_count}
 use Rattle.load.proofs.LoadLaws.{weighted}
 use Rattle.checks.specs.declared.calls.Checked.{Checked}
 use Rattle.checks.specs.Checks.{shape_rules, output_rules, lent_rules, map_value_rules, weight_rules, job_rules, plan_code, job_code}
 use Rattle.checks.specs.ChecksLaws.{planned}
 use Rattle.checks.specs.Engine.{Engine, engine_of}
 use Rattle.checks.specs.EngineLaws.{lawful}
-use Rattle.checks.specs.Found.{found}
 use Rattle.checks.specs.FoundLaws.{found_code, found_place, found_same}
 use Rattle.checks.proofs.calls.check_call.Goals as goal
 use Rattle.checks.proofs.calls.check_call.Goals.{Start}

@@ -1,10 +1,10 @@
 -- The rules 1 to 4 are asked first, then 5 to 7 and 23, then 8 and 9.
-use mathlib.Core.Path.{◌≡◌, sym, ap, ◌∙◌}
+use mathlib.Core.Path.{sym}
 use mathlib.Core.List.{List, ◌++◌}
 use Prim.Native.Nat.{ℕ}
-use Rattle.base.specs.Rules.{Rule, first_broken}
+use Rattle.base.specs.Rules.{Rule}
 use Rattle.base.specs.RefusalsLaws.{handed_on, first_refuses, second_decides}
-use Rattle.checks.specs.Checks.{map_rules, kernel_rules, shape_rules, output_rules, plan_code}
+use Rattle.checks.specs.Checks.{map_rules, kernel_rules, output_rules, plan_code}
 use Rattle.checks.specs.Engine.{engine_of}
 use Rattle.checks.specs.EngineLaws.{lawful}
 use Rattle.checks.specs.ChecksLaws.{in_range}

@@ -8,7 +8,7 @@ use Rattle.layer.specs.declared.shape.Layer.{Layer}
 use Rattle.layer.specs.declared.shape.Plan.{Plan}
 use Rattle.checks.specs.declared.method.Method.{Method}
 use Rattle.checks.specs.Engine.{engine_of}
-use Rattle.checks.specs.Checks.{plan_code, figures, plan_of}
+use Rattle.checks.specs.Checks.{figures, plan_of}
 use Rattle.checks.specs.ChecksLaws.{planned}
 use Rattle.checks.specs.EngineLaws.{lawful}
 use Rattle.checks.proofs.planner.plan_by.Goals as goal
