@@ -2,32 +2,23 @@
 use mathlib.Core.Path.{◌≡◌, sym, ap, ◌∙◌, subst}
 use mathlib.Core.Logic.{◌⊎◌, inl, inr}
 use mathlib.Core.List.{List}
-use Prim.Native.Nat.{ℕ, suc, ◌+◌, ◌-◌, ◌*◌, ◌/◌, ◌^◌, ◌<◌, ◌≤◌}
-use native.Mathlib.Nat.{zero-mul, mul-suc, mul-zero, mul-le-mul_left}
+use Prim.Native.Nat.{ℕ, ◌+◌, ◌-◌, ◌*◌, ◌/◌, ◌^◌, ◌<◌, ◌≤◌}
+use native.Mathlib.Nat.{zero-mul, mul-zero}
 use native.Mathlib.Decide.{dec_lt}
 use native.Mathlib.Omega.{arith}
 use lib.Arith.{digits_div}
 use lib.ListN.{length}
 use Rattle.algebra.specs.Places.{Run}
 use Rattle.algebra.specs.PlacesLaws.{part_ends}
-use Rattle.passes.specs.Butterfly.{Step, Plain, Forward, Inverse, Relation, StepMakes, TakesPower, Paired, PairsAtMost, AtMost, Staged, Joined}
+use Rattle.passes.specs.Butterfly.{Step, Plain, Forward, Inverse, Relation, StepMakes, Paired, PairsAtMost, AtMost, Staged, Joined}
 use Rattle.passes.specs.WordLaws.{plain_inverse}
-use Rattle.passes.proofs.Pairs.{paired_nothing, paired_again}
-
-pub unit_le : (unit r n : ℕ) → r < n → unit * r + unit ≤ unit * n
-unit_le unit r n l = let h : unit * suc r ≤ unit * n = mul-le-mul_left unit l in omega (arith, mul-suc unit r)
+use Rattle.passes.proofs.Pairs.{paired_again}
 
 -- a place of row r
 pub row_of_place : (r n i : ℕ) → Run (r * n) n i → i / n ≡ r
 row_of_place r n i h =
     let e : i ≡ r * n + (i - r * n) = omega arith in
     ap (λ (k : ℕ). k / n) e ∙ digits_div r (omega arith)
-
--- every step takes the powers of the rows after row 0
-pub ready : (step : Step) (b t : ℕ) → 0 < t → t < b → TakesPower step b t
-ready Plain b t lo hi = hi
-ready Forward b t lo hi = hi
-ready Inverse b t lo hi = (lo, hi)
 
 -- a plain butterfly is that of every step with the power 1
 pub plain_made : (step : Step) (b c t : ℕ) {u v y z : ℕ} → t ≡ 0 → StepMakes Plain b c 0 u v y z → StepMakes step b c t u v y z
@@ -52,9 +43,6 @@ module _ (step : Step) (b c unit half lanes : ℕ) where
   -- the state of the loop at row r: the rows from 1 to r − 1 are done
   abbrev pub Rows : ℕ → List ℕ → List ℕ → Type 0
   Rows r xs ys = Paired row_made (λ i. (lanes ≤ i) × (i < r * lanes)) half xs ys
-
-  pub rows_none : (xs : List ℕ) → Rows 1 xs xs
-  rows_none xs = paired_nothing row_made half xs (λ i h. omega arith)
 
   pub rows_longer : (r at t : ℕ) (xs ys zs : List ℕ) → 0 < r → at ≡ r * lanes → t ≡ unit * r → Rows r xs ys
       → Paired (λ _. StepMakes step b c t) (Run at lanes) half ys zs → Rows (r + 1) xs zs

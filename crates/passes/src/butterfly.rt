@@ -79,7 +79,8 @@ impl Butterfly for Inverse {
     }
 }
 
-// Butterflies between the `lanes` words from `at` on and those half a list further.
+// Butterflies between the `lanes` words from `at` on and those half a list further. By index: over two rows lent from two halves, the proof of
+// `stage` did not close.
 fn butterflies<B: Butterfly>(
     words: &mut [u64],
     at: usize,
