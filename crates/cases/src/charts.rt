@@ -22,20 +22,20 @@ fn whole(
     columns: usize,
 ) -> Layer {
     Layer {
-        kind: kind,
-        field: field,
+        kind,
+        field,
         inputs: 1,
         outputs: 1,
-        height: height,
-        width: width,
-        side: side,
-        stride: stride,
-        padding: padding,
-        peak: peak,
+        height,
+        width,
+        side,
+        stride,
+        padding,
+        peak,
         top: 0,
         left: 0,
-        rows: rows,
-        columns: columns,
+        rows,
+        columns,
         below: 0,
         beside: 0,
     }
@@ -157,15 +157,8 @@ fn is_beyond(peak: usize) -> bool {
 
 // The same under every peak: how many are.
 fn peaks(out: &impl Print) -> io::Result<()> {
-    let mut refused: u64 = 0;
-    let mut peak = 1;
-    while peak <= 32767 {
-        if is_beyond(peak) {
-            refused += 1;
-        }
-        peak += 1;
-    }
-    line(out, b"case # refused # \n", &[13, refused])
+    let refused = (1..=32767).filter(|peak| is_beyond(*peak)).count();
+    line(out, b"case # refused # \n", &[13, refused as u64])
 }
 
 pub fn run(out: &impl Print) -> io::Result<()> {

@@ -47,11 +47,9 @@ fn in_budgets(
 {
     let budgets = [0usize, 1, 1, 2, 18446744073709551615, 1];
     let mut job = Job::new(layer);
-    let mut i = 0;
-    while i < 6 {
-        let values = if i == 2 { 0 } else { map.len() };
-        job = stop(out, job, budgets[i], &map[0..values], kernel, output)?;
-        i += 1;
+    for (call, budget) in budgets.iter().enumerate() {
+        let lent = if call == 2 { &map[..0] } else { map };
+        job = stop(out, job, *budget, lent, kernel, output)?;
     }
     job.next = 18446744073709551615;
     stop(out, job, 1, map, kernel, output)?;

@@ -4,40 +4,22 @@ ghost use Rattle.std.specs.Prelude.{◌<◌, ◌≤◌, length};
 
 use crate::sequence::next;
 use crate::text::line;
+use fermat::field::modulus_of;
 use std::io::{self, Print};
 
 const VECTORS: u64 = 8;
-
-fn modulus(field: usize) -> u64
-    ensures { 0 < result }
-{
-    if field == 4 {
-        return 65537;
-    }
-    4294967297
-}
 
 // Fills the words with residues drawn from the sequence, and hands back the seed to go on with.
 fn draw(words: &mut [u64], m: u64, seed: u64) -> u64
     requires { 0 < m }
 {
     let mut state = seed;
-    let mut i = 0;
-    while i < words.len() {
+    for word in words.iter_mut() {
         let high = next(state);
         state = next(high);
-        words[i] = (high * 2147483648 + state) % m;
-        i += 1;
+        *word = (high * 2147483648 + state) % m;
     }
     state
-}
-
-fn fill(words: &mut [u64], word: u64) {
-    let mut i = 0;
-    while i < words.len() {
-        words[i] = word;
-        i += 1;
-    }
 }
 
 // Vector 0 is a 1 at place 1, vector 1 the largest residue there, vector 2 the largest residue everywhere; the others are drawn.
@@ -49,16 +31,14 @@ fn vector(words: &mut [u64], number: u64, m: u64, seed: u64) -> u64
     }
     let word = if number == 0 { 1 } else { m - 1 };
     let others = if number == 2 { word } else { 0 };
-    fill(words, others);
+    words.fill(others);
     words[1] = word;
     seed
 }
 
 fn print_words(out: &impl Print, words: &[u64]) -> io::Result<()> {
-    let mut i = 0;
-    while i < words.len() {
-        print!(out; "{} ", words[i])?;
-        i += 1;
+    for word in words {
+        print!(out; "{word} ")?;
     }
     out.write_all(b"\n")
 }
@@ -80,9 +60,9 @@ fn run_vector(
     number: u64,
     seed: u64,
 ) -> io::Result<u64>
-    requires { 1 < length words.old }
+    requires { (field ≤ 5) × (1 < length words.old) }
 {
-    let state = vector(words, number, modulus(field), seed);
+    let state = vector(words, number, modulus_of(field), seed);
     line(out, b"field # vector #\n", &[field as u64, number])?;
     print_words(out, words)?;
     print_pair(out, field, words)?;
@@ -90,23 +70,19 @@ fn run_vector(
 }
 
 fn run_field(out: &impl Print, field: usize, words: &mut [u64]) -> io::Result<()>
-    requires { 1 < length words.old }
+    requires { (field ≤ 5) × (1 < length words.old) }
 {
     let mut seed = field as u64;
-    let mut number = 0;
-    while number < VECTORS {
+    for number in 0..VECTORS {
         seed = run_vector(out, field, words, number, seed)?;
-        number += 1;
     }
     Ok(())
 }
 
 fn set_last(words: &mut [u64], word: u64) {
-    if words.len() == 0 {
-        return;
+    if let Some(last) = words.last_mut() {
+        *last = word;
     }
-    let last = words.len() - 1;
-    words[last] = word;
 }
 
 // Calls on words, the last of which becomes `word`: the answers of both routines, and the words that they leave.

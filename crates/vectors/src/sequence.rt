@@ -16,12 +16,10 @@ pub fn draw_values(values: &mut [i16], peak: u64, seed: u64) -> u64
     ensures values_after { values.new ≡ values_drawn peak seed values.old }
 {
     let mut state = seed;
-    let mut i = 0;
-    while i < values.len() {
+    for value in values.iter_mut() {
         state = next(state);
         let drawn = (state % (2 * peak + 1)) as i16;
-        values[i] = drawn - peak as i16;
-        i += 1;
+        *value = drawn - peak as i16;
     }
     state
 }

@@ -3,16 +3,13 @@ use std::io::{self, Print};
 
 // Writes the text, with the next of the numbers in decimal in place of each `#`.
 pub fn line(out: &impl Print, text: &[u8], numbers: &[u64]) -> io::Result<()> {
-    let mut next = 0;
-    let mut i = 0;
-    while i < text.len() {
-        if text[i] != b'#' {
-            out.write_all(&text[i..i + 1])?;
-        } else if next < numbers.len() {
-            print!(out; "{}", numbers[next])?;
-            next += 1;
+    let mut next = numbers.iter();
+    for byte in text {
+        if *byte != b'#' {
+            out.write_all(&[*byte])?;
+        } else if let Some(number) = next.next() {
+            print!(out; "{number}")?;
         }
-        i += 1;
     }
     Ok(())
 }

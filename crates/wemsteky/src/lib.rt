@@ -1,4 +1,5 @@
 // The C interface, declared in include/wemsteky.h. Each function takes its numbers apart, calls the library and puts the answer together.
+// The functions by tiles and by strips stay pairs, and the answers arrays of numbers: the C interface names each of them.
 #![tactic(auto)]
 
 ghost use Rattle.std.specs.Prelude.{◌≡◌, length};

@@ -15,8 +15,8 @@ use Rattle.vectors.specs.SequenceLaws.{number_none, number_next}
 use Rattle.vectors.proofs.sequence.draw_values.Goals as goal
 use Rattle.vectors.proofs.sequence.draw_values.Goals.{After-next-state}
 
-pub loop-i-init : goal.loop-i-init
-loop-i-init c = (omega arith, sym (number_none c.args.seed), written_nothing (λ p h. omega arith))
+pub loop-value-init : goal.loop-value-init
+loop-value-init c = (sym (number_none c.args.seed), written_nothing (λ p h. omega arith))
 
 module _ (c : After-next-state) where
   abbrev peak : ℕ
@@ -30,18 +30,18 @@ module _ (c : After-next-state) where
   peak_small = omega (arith, c.requires)
 
   -- the new number is the number after one step more
-  number : c.next-state.result ≡ number_after (suc c.loop-i.i) c.args.seed
+  number : c.next-state.result ≡ number_after (suc c.loop-value.value-index) c.args.seed
   number =
-      c.next-state.ensures.0 ∙ ap next_number c.loop-i.invariant.1 ∙ sym (number_next c.loop-i.i c.args.seed)
+      c.next-state.ensures.0 ∙ ap next_number c.loop-value.invariant.0 ∙ sym (number_next c.loop-value.value-index c.args.seed)
 
 pub overflow_cast-drawn : goal.overflow_cast-drawn
 overflow_cast-drawn c = record { sfits = drawn_small c }
 
-pub overflow_cast-values : goal.overflow_cast-values
-overflow_cast-values c = record { sfits = peak_small c }
+pub overflow_cast-value : goal.overflow_cast-value
+overflow_cast-value c = record { sfits = peak_small c }
 
-pub overflow_sub-values : goal.overflow_sub-values
-overflow_sub-values c =
+pub overflow_sub-value : goal.overflow_sub-value
+overflow_sub-value c =
     let drawn : ℕ = c.next-state.result % (2 * peak c + 1) in
     rw (to_z_pos w16 (drawn_small c), to_z_pos w16 (peak_small c)) (record {
       sfits = omega (arith, difference_small drawn (peak c) 32767 (omega (arith, drawn_small c)) (omega (arith, peak_small c)));
@@ -50,27 +50,27 @@ overflow_sub-values c =
 -- the value of the new number is what is written
 written : (c : After-next-state) →
     let drawn : ℕ = c.next-state.result % (2 * peak c + 1) in
-    to_z w16 (of_z w16 (to_z w16 drawn -ℤ to_z w16 (peak c))) ≡ value_of (peak c) (number_after (suc c.loop-i.i) c.args.seed)
+    to_z w16 (of_z w16 (to_z w16 drawn -ℤ to_z w16 (peak c))) ≡ value_of (peak c) (number_after (suc c.loop-value.value-index) c.args.seed)
 written c =
-    to_z-of_z (sfits_of {w = w16} (overflow_sub-values c).sfits)
+    to_z-of_z (sfits_of {w = w16} (overflow_sub-value c).sfits)
     ∙ ap₂ ◌-ℤ◌ (to_z_pos w16 (drawn_small c)) (to_z_pos w16 (peak_small c))
     ∙ ap (value_of (peak c)) (number c)
 
-pub loop-i-preserved : goal.loop-i-preserved
-loop-i-preserved c =
-    let loop = c.loop-i in
-    let i = loop.i in
+pub loop-value-preserved : goal.loop-value-preserved
+loop-value-preserved c =
+    let loop = c.loop-value in
+    let i = loop.value-index in
     let here : 0 + i ≡ i = omega arith in
     let next : i + 1 ≡ suc i = omega arith in
     let value = to_z w16 (of_z w16 (to_z w16 (c.next-state.result % (2 * peak c + 1)) -ℤ to_z w16 (peak c))) in
     let moved = ap (λ (k : ℕ). value_of (peak c) (number_after (suc k) c.args.seed)) (sym here) in
-    let longer = written_longer 0 i value (omega arith) loop.invariant.2 (written c ∙ moved) in
-    (omega arith, rw next (number c), rw here at longer)
+    let longer = written_longer 0 i value (omega arith) loop.invariant.1 (written c ∙ moved) in
+    (rw next (number c), rw here at longer)
 
 pub returns : goal.returns
 returns c =
-    let loop = c.loop-i in
-    let w = loop.invariant.2 in
+    let loop = c.loop-value in
+    let w = loop.invariant.1 in
     let lent = c.args.values.now in
-    let last : loop.i ≡ length lent = omega arith in
-    record { value = rw last at loop.invariant.1; values_after = table_of (pos 0) (length lent) _ loop.values w.same_length (λ p l. w.here p l (omega arith, omega arith)) }
+    let last : loop.value-index ≡ length lent = omega arith in
+    record { value = rw last at loop.invariant.0; values_after = table_of (pos 0) (length lent) _ loop.values w.same_length (λ p l. w.here p l (omega arith, omega arith)) }
