@@ -8,7 +8,7 @@ use Rattle.algebra.specs.EveryLaws.{both_true}
 use Rattle.layer.specs.declared.shape.Layer.{Layer}
 use Rattle.layer.specs.declared.shape.Kind.TheVariants.{Tconv}
 use Rattle.layer.specs.Shape.{is_conv, kind_of, conv_size, tconv_size, full_size}
-use Rattle.layer.specs.KindLaws.{tconv_number}
+use Rattle.layer.specs.KindLaws.{tconv_test}
 use Rattle.layer.specs.Planned.{added_fits, crop_fits, InRange, ExtentInRange, Outputs}
 
 pub height_extent : (l : Layer) → InRange l → ExtentInRange l l.height l.below
@@ -38,7 +38,9 @@ module _ (l : Layer) (extent added : ℕ) where
 
   -- in an arm of a match on the kind
   pub tconv_fits : Outputs l extent added → Tconv ≡ kind_of l → 2 * l.padding < (extent - 1) * l.stride + l.side + added
-  tconv_fits o e = tconv_room o (tconv_number l e)
+  unfolding tconv_size
+  tconv_fits o e =
+      let h = leb-true 1 (tconv_size extent l.side l.stride l.padding added) (rw (tconv_test l e) at o.some) in omega arith
 
   pub strides_high : ExtentInRange l extent added → (extent - 1) * l.stride ≤ 2044
   strides_high x = mul-le-mul {n₂ = 511} {m₂ = 4} (omega (arith, x.high)) x.shape.stride_high
