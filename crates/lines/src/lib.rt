@@ -1,23 +1,20 @@
-// Writing lines into a buffer: fixed words, numbers, rows of numbers. Each function writes from `at` on and answers with the place after.
+// Writing lines into a buffer: fixed words, numbers, rows of numbers. Each function writes from `at` on and answers with the place after:
+// what the bench program's `answer` promises of its caller's buffer, also of the bytes after the end, is said of such a place.
 #![tactic(auto)]
 
 ghost use Rattle.std.specs.Prelude.{cond, [], ◌∷◌, ◌++◌, ◌+◌, ◌*◌, ◌≤◌, ◌<◌, length};
 ghost use Rattle.lines.specs.Lines.{decimal, signed_decimal, numbered, unreadable, rows_text};
 ghost use Rattle.lines.specs.Writing.{Appended};
 
-use base::number;
-
 // Bytes as they are.
 fn put_bytes(lines: &mut [u8], at: usize, bytes: &[u8]) -> usize
     requires { at + length bytes.now ≤ length lines.old }
     ensures { Appended at bytes.now lines.old lines.new result }
 {
-    let mut i = 0;
-    while i < bytes.len() {
-        lines[at + i] = bytes[i];
-        i += 1;
+    for (i, byte) in bytes.iter().enumerate() {
+        lines[at + i] = *byte;
     }
-    at + i
+    at + bytes.len()
 }
 
 // A number in base ten: its tenth, then its last digit.
@@ -42,7 +39,7 @@ fn put_value(lines: &mut [u8], at: usize, value: i32) -> usize
     if value < 0 {
         first = put_bytes(lines, at, b"-");
     }
-    put_number(lines, first, number::size(value) as usize)
+    put_number(lines, first, value.unsigned_abs() as usize)
 }
 
 // A value of a row, and what follows it: a newline after the last of a row, else a space.
@@ -64,11 +61,8 @@ pub fn put_rows(lines: &mut [u8], at: usize, values: &[i32], width: usize) -> us
     ensures { Appended at (rows_text width (length values.now) values.now) lines.old lines.new result }
 {
     let mut place = at;
-    let mut i = 0;
-    while i < values.len() {
-        let value = values[i];
-        i += 1;
-        place = put_entry(lines, place, value, i % width == 0);
+    for (i, value) in values.iter().enumerate() {
+        place = put_entry(lines, place, *value, (i + 1) % width == 0);
     }
     place
 }

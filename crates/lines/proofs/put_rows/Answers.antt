@@ -20,11 +20,11 @@ use Rattle.lines.proofs.put_rows.Goals.{After-put_entry-place}
 
 pub loop-i-init : goal.loop-i-init
 unfolding rows_text
-loop-i-init c = (omega arith, omega arith, append_none _ _)
+loop-i-init c = (omega arith, append_none _ _)
 
 pub put_entry-place-requires : goal.put_entry-place-requires
 put_entry-place-requires c =
-    omega (arith, c.loop-i.invariant.2.same_length, c.requires.1)
+    omega (arith, c.loop-i.invariant.1.same_length, c.requires.1)
 
 -- the value that is read, and what of it stands in the buffer
 module _ (c : After-put_entry-place) where
@@ -46,12 +46,11 @@ pub loop-i-preserved : goal.loop-i-preserved
 unfolding rows_text
 loop-i-preserved c =
     let entry = (goal.at.loop-i-preserved c).After-put_entry-place in (
-      omega arith,
-      omega (arith, entry_few entry, c.loop-i.invariant.1),
-      rw (add-one c.loop-i.i) (append_two c.loop-i.invariant.2 (entered entry)),
+      omega (arith, entry_few entry, c.loop-i.invariant.0),
+      rw (add-one c.loop-i.i) (append_two c.loop-i.invariant.1 (entered entry)),
     )
 
 pub returns : goal.returns
 returns c =
-    let ends : c.loop-i.i ≡ length c.args.values.now = omega (arith, c.loop-i.invariant.0, c.loop-i-test.false) in
-    rw ends at c.loop-i.invariant.2
+    let ends : c.loop-i.i ≡ length c.args.values.now = omega arith in
+    rw ends at c.loop-i.invariant.1

@@ -7,7 +7,7 @@ use Rattle.lines.specs.Writing.{Appended}
 use Rattle.lines.specs.WritingLaws.{append_none, append_two}
 use Rattle.lines.proofs.SignedDecimals.{sign, sign_below, sign_above, sign_size, sign_long, size_few}
 use Rattle.lines.proofs.put_value.Goals as goal
-use Rattle.lines.proofs.put_value.Goals.{After-size, Joined-value-lt0, then-value-lt0, else-value-lt0}
+use Rattle.lines.proofs.put_value.Goals.{After-unsigned_abs, Joined-value-lt0, then-value-lt0, else-value-lt0}
 
 -- the sign stands in the buffer
 signed : (c : Joined-value-lt0) →
@@ -21,9 +21,9 @@ signed c =
     ]
 
 -- the size that is put
-module _ (c : After-size) where
-  sized : c.size.result ≡ nat_abs c.args.value
-  sized = rw (to_z-of_z c.ranges.value) at c.size.ensures
+module _ (c : After-unsigned_abs) where
+  sized : c.unsigned_abs.result ≡ nat_abs c.args.value
+  sized = rw (to_z-of_z c.ranges.value) at c.unsigned_abs.ensures.value
 
 pub put_number-requires : goal.put_number-requires
 put_number-requires c =
@@ -34,4 +34,4 @@ put_number-requires c =
 pub returns : goal.returns
 returns c =
     let at = goal.at.returns c in
-    rw (sign_size c.args.value) (append_two (signed at.Joined-value-lt0) (rw (sized at.After-size) at c.put_number.ensures))
+    rw (sign_size c.args.value) (append_two (signed at.Joined-value-lt0) (rw (sized at.After-unsigned_abs) at c.put_number.ensures))
