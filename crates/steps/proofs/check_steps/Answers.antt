@@ -1,5 +1,5 @@
 -- The rules are asked in three lists: 21, those of the layers, and 22. Each list is asked where those before it are kept.
-use mathlib.Core.Path.{◌≡◌, sym, ◌∙◌}
+use mathlib.Core.Path.{◌≡◌, sym}
 use mathlib.Core.List.{List, [], ◌∷◌, ◌++◌}
 use Prim.Native.Nat.{ℕ}
 use Rattle.base.specs.Rules.{Rule, first_broken}
