@@ -1,7 +1,6 @@
 // The values of the map, written in stored order: at each place of the output's window the peak with the sign of the weight that meets it, 0
 // elsewhere.
-ghost use Rattle.std.specs.Prelude.{◌≡◌, ◌+◌, ◌*◌, ◌<◌, ◌≤◌, pos, length};
-ghost use Rattle.algebra.specs.Places.{Written, Run};
+ghost use Rattle.std.specs.Prelude.{◌≡◌, ℕ, ◌+◌, ◌*◌, ◌<◌, ◌≤◌, pos, length, get_or};
 ghost use Rattle.layer.specs.Direct.{within};
 ghost use Rattle.layer.specs.Shape.{map_count};
 ghost use Rattle.worst.specs.Worst.{value_for, weight_met, value_at, map_for};
@@ -9,6 +8,7 @@ ghost use Rattle.worst.specs.Accepted.{MadeFor};
 
 use crate::output::Output;
 use layer::shape::Layer;
+use std::cmp::Ordering;
 
 // The value for a weight.
 fn value_for(weight: i16, peak: usize) -> i16
@@ -16,12 +16,10 @@ fn value_for(weight: i16, peak: usize) -> i16
     ensures { result ≡ value_for peak weight }
 {
     let high = peak as i16;
-    if weight > 0 {
-        high
-    } else if weight < 0 {
-        -high
-    } else {
-        0
+    match weight.cmp(&0) {
+        Ordering::Greater => high,
+        Ordering::Less => -high,
+        Ordering::Equal => 0,
     }
 }
 
@@ -53,17 +51,15 @@ fn weight_met(layer: Layer, kernel: &[i16], output: Output, c: usize, i: usize, 
 }
 
 // One row of the map. Rows are counted over all channels: row `line` is row `line` % H of map channel `line` / H.
-fn write_row(layer: Layer, kernel: &[i16], output: Output, line: usize, map: &mut [i16])
-    requires { MadeFor layer kernel.now output × (line < layer.inputs * layer.height) × (length map.old ≡ map_count layer) }
-    ensures { Written (pos 0) (Run (line * layer.width) layer.width) (value_at layer kernel.now output) map.old map.new }
+fn write_row(layer: Layer, kernel: &[i16], output: Output, line: usize, row: &mut [i16])
+    requires { MadeFor layer kernel.now output × (line < layer.inputs * layer.height) × (length row.old ≡ layer.width) }
+    ensures len { length row.new ≡ length row.old }
+    ensures values { (j : ℕ) → j < layer.width → get_or row.new j (pos 0) ≡ value_at layer kernel.now output (line * layer.width + j) }
 {
     let c = line / layer.height;
     let i = line % layer.height;
-    let start = line * layer.width;
-    for j in 0..layer.width {
-        let weight = weight_met(layer, kernel, output, c, i, j);
-        let value = value_for(weight, layer.peak);
-        map[start + j] = value;
+    for (j, value) in row.iter_mut().enumerate() {
+        *value = value_for(weight_met(layer, kernel, output, c, i, j), layer.peak);
     }
 }
 
@@ -72,8 +68,9 @@ pub(crate) fn write_map(layer: Layer, kernel: &[i16], output: Output, map: &mut 
     requires { MadeFor layer kernel.now output × (length map.old ≡ map_count layer) }
     ensures { map.new ≡ map_for layer kernel.now output }
 {
-    let lines = layer.inputs * layer.height;
-    for line in 0..lines {
-        write_row(layer, kernel, output, line, map);
+    let width = layer.width;
+    for line in 0..layer.inputs * layer.height {
+        let start = line * width;
+        write_row(layer, kernel, output, line, &mut map[start..start + width]);
     }
 }

@@ -1,10 +1,9 @@
 -- The rules are asked in three lists: the planner's, then 10, 11 and 14, then 24 and 29. Each list is asked where those before it are kept.
-use mathlib.Core.Path.{◌≡◌, sym, ◌∙◌}
+use mathlib.Core.Path.{sym}
 use mathlib.Core.List.{List, ◌++◌}
-use Prim.Native.Nat.{ℕ}
 use borrow.Author.Tests.{eqb-true}
 use lib.ListN.{length}
-use Rattle.base.specs.Rules.{Rule, first_broken}
+use Rattle.base.specs.Rules.{Rule}
 use Rattle.base.specs.RulesLaws.{none_broken, inside_high}
 use Rattle.base.specs.RefusalsLaws.{handed_on, first_refuses, second_decides}
 use Rattle.layer.specs.Planned.{Planned}
