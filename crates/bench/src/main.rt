@@ -14,6 +14,7 @@ fn read_full<R: Read>(reader: &mut R, buffer: &mut [u8]) -> io::Result<usize>
     ensures bytes { IfOk result (λ count. Consumes (R.remaining reader.old) (R.remaining reader.new) (take count buffer.new)) }
     ensures end { IfOk result (λ count. count < length buffer.new → IsAtEnd (R.remaining reader.new)) }
 {
+    // A `while`: how many bytes a read takes, and so how many reads there are, is not known before.
     let mut count = 0;
     while count < buffer.len() {
         let more = reader.read(&mut buffer[count..])?;
