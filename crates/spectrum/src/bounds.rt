@@ -3,7 +3,6 @@ ghost use Rattle.std.specs.Prelude.{◌≡◌, ◌*◌, ◌^◌, ◌≤◌};
 ghost use Rattle.fermat.specs.Field.{modulus};
 ghost use Rattle.spectrum.specs.Product.{settled_most};
 
-use fermat::field::{bits_of, modulus_of};
 use passes::Residues;
 
 // Of loaded words.
@@ -11,10 +10,7 @@ pub fn loaded(field: usize) -> Residues
     requires { field ≤ 5 }
     ensures { (result.bits ≡ 2 ^ field) × (result.bound ≡ 2 * modulus field) }
 {
-    Residues {
-        bits: bits_of(field),
-        bound: 2 * modulus_of(field),
-    }
+    Residues::of_field(field)
 }
 
 // Of words that are brought down.
