@@ -18,7 +18,7 @@ use layer::sizes;
 use load::judge_channels;
 use load::offender::{Offender, first_offender};
 
-// Why a call is refused.
+// Why a call is refused, with the place that is told.
 #[derive(Clone, Copy)]
 pub struct Refused {
     pub refusal: Refusal,
@@ -34,7 +34,8 @@ impl From<Refusal> for Refused {
     }
 }
 
-// What checks find. The zeros stand for no place, since that is what is told.
+// What checks find, as it is told. A number and zeros stay in place of a `Result`: callers in C read them, and the theorem of the told place speaks of
+// the zeros.
 #[derive(Clone, Copy)]
 pub struct Checked {
     pub code: usize, // the number of the first rule broken, or 0
@@ -42,6 +43,7 @@ pub struct Checked {
 }
 
 impl Checked {
+    // What is told of a check's answer.
     pub fn of(checked: Result<(), Refused>) -> Checked
         ensures { result ≡ found checked }
     {

@@ -1,4 +1,4 @@
-// A step of a sequence, and the steps as eight rows of eighteen numbers.
+// A step of a sequence, and the steps as eight rows of eighteen numbers. They stay one row of 144 numbers, as the C interface lends them.
 ghost use Rattle.std.specs.Prelude.{◌≡◌, ◌<◌};
 ghost use Rattle.algebra.specs.Places.{table};
 ghost use Rattle.steps.specs.Steps.{number_at, step_at};
