@@ -5,7 +5,6 @@ ghost use Rattle.checks.specs.Engine.{engine_of};
 ghost use Rattle.engine.specs.Call.{refused, answer_of};
 
 use crate::job::{Job, Progress};
-use base::number::lesser;
 use checks::calls::{Checked, check_job};
 use checks::method::{Method, part_total};
 use layer::shape::Layer;
@@ -60,7 +59,7 @@ pub(crate) fn answer_by(
         return refusal(job, checked);
     }
     let total = part_total(method, layer);
-    let count = lesser(budget, total - next);
+    let count = budget.min(total - next);
     let to = next + count;
     acceptance(layer, to, count, to == total)
 }

@@ -1,7 +1,7 @@
 // A job: a layer and the index of its next part. It is a value; each call takes it and hands back the moved job. It has no mark of its engine:
 // who calls it keeps it to the one that it began with.
 ghost use Rattle.std.specs.Prelude.{◌≡◌};
-ghost use Rattle.checks.specs.Engine.{tile_engine, strip_engine, engine_of};
+ghost use Rattle.checks.specs.Engine.{engine_of};
 ghost use Rattle.engine.specs.Call.{start_of, Called};
 
 use crate::answer::answer_by;
@@ -68,33 +68,5 @@ impl Job {
         finish_parts(method, layer, next, to, map, kernel, output, scratch);
         clear(scratch, 0, scratch_words(method, layer));
         progress
-    }
-
-    // By tiles: the first 3N² words of scratch are used.
-    pub fn advance(
-        self,
-        budget: usize,
-        map: &[i16],
-        kernel: &[i16],
-        output: &mut [i32],
-        scratch: &mut [u64],
-    ) -> Progress
-        ensures { Called tile_engine self budget map.now kernel.now output.old scratch.old result output.new scratch.new }
-    {
-        self.advance_by(Method::Tiles, budget, map, kernel, output, scratch)
-    }
-
-    // By strips: the first 768 words of scratch are used.
-    pub fn advance_strips(
-        self,
-        budget: usize,
-        map: &[i16],
-        kernel: &[i16],
-        output: &mut [i32],
-        scratch: &mut [u64],
-    ) -> Progress
-        ensures { Called strip_engine self budget map.now kernel.now output.old scratch.old result output.new scratch.new }
-    {
-        self.advance_by(Method::Strips, budget, map, kernel, output, scratch)
     }
 }

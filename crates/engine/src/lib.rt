@@ -1,9 +1,7 @@
 // Whole runs, jobs that advance by a budget of parts, tiles or strips, and previews of what a budget would do.
 #![tactic(auto)]
 
-ghost use Rattle.layer.specs.Shape.{tile_total};
-ghost use Rattle.layer.specs.Strip.{strip_total};
-ghost use Rattle.checks.specs.Engine.{tile_engine, strip_engine, engine_of};
+ghost use Rattle.checks.specs.Engine.{engine_of};
 ghost use Rattle.engine.specs.Call.{start_of, Called};
 
 use crate::job::{Job, Progress};
@@ -32,30 +30,4 @@ pub fn run_by(
     let plan = plan_by(method, layer);
     let job = Job::new(layer);
     job.advance_by(method, plan.parts, map, kernel, output, scratch)
-}
-
-// By tiles.
-pub fn run(
-    layer: Layer,
-    map: &[i16],
-    kernel: &[i16],
-    output: &mut [i32],
-    scratch: &mut [u64],
-) -> Progress
-    ensures { Called tile_engine (start_of layer) (tile_total layer) map.now kernel.now output.old scratch.old result output.new scratch.new }
-{
-    run_by(Method::Tiles, layer, map, kernel, output, scratch)
-}
-
-// By strips.
-pub fn run_strips(
-    layer: Layer,
-    map: &[i16],
-    kernel: &[i16],
-    output: &mut [i32],
-    scratch: &mut [u64],
-) -> Progress
-    ensures { Called strip_engine (start_of layer) (strip_total layer) map.now kernel.now output.old scratch.old result output.new scratch.new }
-{
-    run_by(Method::Strips, layer, map, kernel, output, scratch)
 }

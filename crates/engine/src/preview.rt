@@ -1,7 +1,7 @@
 // Trying a budget: what a call of the job would answer, and how many output values it would store. Output and scratch are shared slices, so nothing is
 // written.
 ghost use Rattle.std.specs.Prelude.{◌≡◌, length};
-ghost use Rattle.checks.specs.Engine.{tile_engine, strip_engine, engine_of};
+ghost use Rattle.checks.specs.Engine.{engine_of};
 ghost use Rattle.engine.specs.Preview.{preview_of};
 
 use crate::answer::answer_by;
@@ -50,33 +50,5 @@ impl Job {
             progress: progress,
             values: values,
         }
-    }
-
-    // Of a call by tiles.
-    pub fn preview(
-        self,
-        budget: usize,
-        map: &[i16],
-        kernel: &[i16],
-        output: &[i32],
-        scratch: &[u64],
-    ) -> Preview
-        ensures { result ≡ preview_of tile_engine self budget map.now kernel.now (length output.now) (length scratch.now) }
-    {
-        self.preview_by(Method::Tiles, budget, map, kernel, output, scratch)
-    }
-
-    // Of a call by strips.
-    pub fn preview_strips(
-        self,
-        budget: usize,
-        map: &[i16],
-        kernel: &[i16],
-        output: &[i32],
-        scratch: &[u64],
-    ) -> Preview
-        ensures { result ≡ preview_of strip_engine self budget map.now kernel.now (length output.now) (length scratch.now) }
-    {
-        self.preview_by(Method::Strips, budget, map, kernel, output, scratch)
     }
 }

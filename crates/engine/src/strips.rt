@@ -7,7 +7,7 @@ ghost use Rattle.checks.specs.Engine.{strip_engine};
 ghost use Rattle.engine.specs.Call.{finished};
 
 use layer::shape::Layer;
-use row::table::powers;
+use row::table::PowerTable;
 use strip::finish::finish_strip;
 
 // Finishes the strips from `from` up to `to`. The first 768 words of scratch are left as they come. The table of powers is taken once.
@@ -25,10 +25,8 @@ pub(crate) fn finish_strips(
     ensures output_after { output.new ≡ finished strip_engine layer map.now kernel.now from to output.old }
     ensures changed { Changed 0 0 strip_words scratch.old scratch.new }
 {
-    let powers = powers();
-    let mut strip = from;
-    while strip < to {
+    let powers = PowerTable::new();
+    for strip in from..to {
         finish_strip(layer, strip, &powers, map, kernel, output, scratch);
-        strip += 1;
     }
 }

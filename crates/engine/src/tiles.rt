@@ -43,10 +43,8 @@ pub(crate) fn finish_tiles(
     ensures output_after { output.new ≡ finished tile_engine layer map.now kernel.now from to output.old }
     ensures changed { Changed 0 0 (scratch_words layer) scratch.old scratch.new }
 {
-    let mut tile = from;
-    while tile < to {
+    for tile in from..to {
         let kept = keeps_kernel(layer, from, tile);
         finish_tile(layer, tile, kept, map, kernel, output, scratch);
-        tile += 1;
     }
 }

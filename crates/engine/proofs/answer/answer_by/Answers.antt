@@ -41,6 +41,6 @@ overflow_sub-total c = omega (arith, c.part_total-total.ensures, (passed (goal.a
 pub returns : goal.returns
 returns c =
     let g = c.args in
-    let is = rw c.part_total-total.ensures at c.lesser-count.ensures in
+    let is = rw c.part_total-total.ensures at c.min-count.ensures in
     rw (c.acceptance.ensures, c.part_total-total.ensures)
-    (accepted_answer (engine (goal.at.returns c).Else-checked-ne0) g.job g.budget g.map.now g.kernel.now g.output g.scratch c.lesser-count.result (accepts (goal.at.returns c).Else-checked-ne0) is)
+    (accepted_answer (engine (goal.at.returns c).Else-checked-ne0) g.job g.budget g.map.now g.kernel.now g.output g.scratch c.min-count.result (accepts (goal.at.returns c).Else-checked-ne0) is)
