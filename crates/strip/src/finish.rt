@@ -16,7 +16,8 @@ use layer::shape::Layer;
 use row::recover_row;
 use row::table::PowerTable;
 
-// All map channels, one after the other.
+// All map channels, one after the other. A strip has its own loop beside a tile's: it settles the sum after each channel and keeps no kernel, so a
+// trait for both would have to carry two invariants.
 fn add_channels(
     scratch: &mut [u64],
     layer: Layer,

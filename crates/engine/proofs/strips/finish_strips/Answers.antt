@@ -10,10 +10,12 @@ loop-strip-init c = record { written = no_part strip_engine _ _ _ _; changed = c
 
 pub finish_strip-requires : goal.finish_strip-requires
 finish_strip-requires c =
-    let before = c.loop-strip.invariant in (
-      rw (sym before.written.same_length, sym before.changed.same_length) at c.requires.callable,
-      omega (arith, c.loop-strip-test.true, c.requires.from_le_to),
-    )
+    let before = c.loop-strip.invariant in record {
+      callable = (
+        rw (sym before.written.same_length, sym before.changed.same_length) at c.requires.callable,
+        omega (arith, c.loop-strip-test.true, c.requires.from_le_to),
+      );
+    }
 
 pub loop-strip-preserved : goal.loop-strip-preserved
 loop-strip-preserved c =
