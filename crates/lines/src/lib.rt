@@ -11,10 +11,9 @@ fn put_bytes(lines: &mut [u8], at: usize, bytes: &[u8]) -> usize
     requires { at + length bytes.now ≤ length lines.old }
     ensures { Appended at bytes.now lines.old lines.new result }
 {
-    for (i, byte) in bytes.iter().enumerate() {
-        lines[at + i] = *byte;
-    }
-    at + bytes.len()
+    let end = at + bytes.len();
+    lines[at..end].copy_from_slice(bytes);
+    end
 }
 
 // A number in base ten: its tenth, then its last digit.

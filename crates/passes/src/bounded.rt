@@ -37,15 +37,4 @@ impl Residues {
             bound: 2 * self.bound,
         }
     }
-
-    // The same residues as some passes leave them.
-    pub fn after(self, passes: u32) -> Residues
-        requires { (passes < 63) × (self.bound * 2 ^ passes < 9223372036854775808) }
-        ensures { (result.bits ≡ self.bits) × (result.bound ≡ self.bound * 2 ^ passes) }
-    {
-        Residues {
-            bits: self.bits,
-            bound: self.bound << passes,
-        }
-    }
 }

@@ -12,8 +12,8 @@ ghost use Rattle.spectrum.specs.Product.{factor_most, settled_most};
 ghost use Rattle.row.specs.Row.{RowSpectrum, RowRecovered};
 
 use passes::order::transpose;
-use passes::{forward, inverse};
-use spectrum::bounds::{loaded, settled};
+use passes::{Residues, forward, inverse};
+use spectrum::bounds::settled;
 use spectrum::product::offset_residues;
 use spectrum::value::offset_of;
 use table::PowerTable;
@@ -37,7 +37,7 @@ pub fn row_spectrum(words: &mut [u64], filled: usize, powers: &PowerTable)
     ensures row_spectrum { RowSpectrum (λ i. get_or words.old i 0) 0 words.new }
     ensures at_most { AtMost (factor_most 4) words.new }
 {
-    forward(words, SIDE, filled, SIDE, UNIT, loaded(4));
+    forward(words, SIDE, filled, SIDE, UNIT, Residues::of_field(4));
     twist(words, 1, powers);
     transpose(words, SIDE);
     forward(words, SIDE, SIDE, SIDE, UNIT, settled(4));

@@ -9,10 +9,10 @@ ghost use Rattle.spectrum.specs.Tile.{Spectrum, Recovered};
 ghost use Rattle.spectrum.specs.Corner.{corner_start, corner, Cornered};
 ghost use Rattle.spectrum.specs.Product.{factor_most};
 
-use bounds::{loaded, settled};
+use bounds::settled;
 use corner::forward_corner;
 use fermat::field::{bits_of, halvings_of, transform_length};
-use passes::{Forward, Inverse};
+use passes::{Forward, Inverse, Residues};
 use product::{offset_residues, settle_in};
 use tile::transform_tile;
 use value::offset_of;
@@ -29,7 +29,7 @@ pub fn tile_spectrum(words: &mut [u64], field: usize)
     ensures spectrum { Spectrum field (λ r j. word (transform_length field) r j words.old) 0 words.new }
     ensures at_most_2 { AtMost (factor_most field) words.new }
 {
-    transform_tile::<Forward>(words, transform_length(field), loaded(field));
+    transform_tile::<Forward>(words, transform_length(field), Residues::of_field(field));
 }
 
 // The same for a corner, which stands in the last words.
@@ -38,7 +38,7 @@ pub fn corner_spectrum(words: &mut [u64], k: usize, field: usize)
     ensures spectrum { Spectrum field (corner k (corner_start (transform_length field) k) words.old) 0 words.new }
     ensures at_most { AtMost (factor_most field) words.new }
 {
-    forward_corner(words, transform_length(field), k, loaded(field));
+    forward_corner(words, transform_length(field), k, Residues::of_field(field));
 }
 
 // From the transform of a tile, such as a sum of products of transforms, back to the tile: each of its words as a residue, with half of

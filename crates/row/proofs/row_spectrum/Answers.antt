@@ -11,11 +11,11 @@ twisted_length : (c : After-twist) → length c.twist.new.words ≡ 256
 twisted_length c = c.twist.auto.words ∙ c.forward.auto.words ∙ c.requires.0
 
 pub forward-requires-clause-grid : goal.forward-requires-clause-grid
-forward-requires-clause-grid c = rw (c.loaded.ensures.0, c.loaded.ensures.1) (column_grid 131074 (omega arith) c.requires.0)
+forward-requires-clause-grid c = rw (c.of_field.ensures.0, c.of_field.ensures.1) (column_grid 131074 (omega arith) c.requires.0)
 
 pub twist-requires : goal.twist-requires
 twist-requires c =
-    let most = rw (passes_16, c.loaded.ensures.1) at c.forward.ensures.at_most_2 in
+    let most = rw (passes_16, c.of_field.ensures.1) at c.forward.ensures.at_most_2 in
     (c.forward.auto.words ∙ c.requires.0, omega arith, λ i l. omega (arith, most i l))
 
 pub forward-requires-2-clause-grid : goal.forward-requires-2-clause-grid
@@ -35,7 +35,7 @@ forward-requires-2-clause-at_most c =
 pub returns-clause-row_spectrum : goal.returns-clause-row_spectrum
 returns-clause-row_spectrum c =
     row_forward c.args.words.now c.forward.new.words c.twist.new.words c.transpose.new.words c.forward-2.new.words
-    (twisted_length (goal.at.returns-clause-row_spectrum c).After-twist) (rw (passes_16, c.loaded.ensures.0) at c.forward.ensures.forward)
+    (twisted_length (goal.at.returns-clause-row_spectrum c).After-twist) (rw (passes_16, c.of_field.ensures.0) at c.forward.ensures.forward)
     c.twist.ensures c.transpose.ensures (rw (passes_16, c.settled.ensures.0) at c.forward-2.ensures.forward)
 
 pub returns-clause-at_most : goal.returns-clause-at_most
