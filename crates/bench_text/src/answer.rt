@@ -106,7 +106,8 @@ fn put_body(lines: &mut [u8], layer: Layer, text: &[u8]) -> usize
     )
 }
 
-// The first bytes of `lines` become what the bench program prints; their count is the answer. The bytes after them stay.
+// The first bytes of `lines` become what the bench program prints; their count is the answer. The bytes after them stay. The number of a refusal is
+// printed, so it stays one.
 pub fn answer(lines: &mut [u8; 16384], input: &[u8]) -> usize
     ensures { (result ≤ length lines.new) × (take result lines.new ≡ printed input.now)
         × (drop result lines.new ≡ drop result lines.old) }

@@ -17,7 +17,7 @@ pub struct Job {
     pub next: usize, // the index of the next part, a tile or a strip
 }
 
-// What a call answers.
+// What a call answers. The number and the zeros are what C is told, and theorems on calls speak of them (`called_number`, `called_place`).
 #[derive(Clone, Copy)]
 pub struct Progress {
     pub code: usize, // the number of the first rule broken, or 0
