@@ -9,7 +9,7 @@ use native.Mathlib.Omega.{arith}
 use lib.ListN.{length}
 use lib.Pow.{pow_pos}
 use Rattle.passes.specs.Butterfly.{Step, Bound, AtMost, StageSizes}
-use Rattle.passes.specs.Passes.{Direction, Forward, Inverse, passes, step_of, level_of, Passed, Grid, Pruned, Transformed}
+use Rattle.passes.specs.Passes.{Direction, Forward, Inverse, passes, step_of, level_of, WholeBlocks, Passed, Grid, Pruned, Transformed}
 use Rattle.passes.specs.PassLaws.{forward_all, inverse_all}
 use Rattle.passes.proofs.Levels.{level_lt, quotient, half_rows, level, power_le, sized}
 use Rattle.passes.proofs.PassRows.{passed_most}
@@ -44,31 +44,30 @@ pub after_all : (direction : Direction) {b c unit n filled lanes p : ℕ} {xs ys
 after_all Forward side after = λ k j lk lj. rw side at (forward_all (after.state.lane j lj) k lk)
 after_all Inverse side after = λ k j lk lj. inverse_all (after.state.lane j lj) k lk
 
--- what the code computes for pass p: its step, its level i, its blocks g, its rows, its unit u, the bits d and the bound e on its words
-pub record Call (direction : Direction) (b n filled unit c p : ℕ) (step : Step) (i g rows u d e : ℕ) : Type 0 where
+-- what the code computes for pass p: its step, its level i, its rows, its unit u, the bits d and the bound e on its words
+pub record Call (direction : Direction) (b n filled unit c p : ℕ) (step : Step) (i rows u d e : ℕ) : Type 0 where
   pub step_is : step ≡ step_of direction
   pub level_is : i ≡ level_of direction p (passes n - 1 - p)
-  pub blocks_are : g ≡ 2 ^ i
   pub rows_are : rows ≡ min filled (n / 2 ^ (i + 1))
   pub unit_is : u ≡ unit * 2 ^ i
   pub bits_are : d ≡ b
   pub bound_is : e ≡ c * 2 ^ p
 
-module _ {direction : Direction} {s n lanes unit b c filled p i g rows u d e : ℕ} {step : Step} {xs ys : List ℕ} (bound : Bound b c)
+module _ {direction : Direction} {s n lanes unit b c filled p i rows u d e : ℕ} {step : Step} {xs ys : List ℕ} (bound : Bound b c)
     (grid : Grid s n lanes unit b c) (pruned : Pruned direction n filled lanes xs) (short : p < passes n)
-    (call : Call direction b n filled unit c p step i g rows u d e) (size : length xs ≡ s) (before : After direction b c unit n filled lanes p (n / 2 ^ p) xs ys) where
+    (call : Call direction b n filled unit c p step i rows u d e) (size : length xs ≡ s) (before : After direction b c unit n filled lanes p (n / 2 ^ p) xs ys) where
   level_short : i < passes n
   level_short = rw call.level_is (level_lt direction p (passes n) short)
 
   -- what it asks
   pub pass_asks : let half = n / 2 ^ (i + 1) * lanes in
-      ((length ys ≡ g * (2 * half)) × StageSizes (2 * half) rows lanes half u d) × AtMost e ys
+      (WholeBlocks (length ys) half × StageSizes (2 * half) rows lanes half u d) × AtMost e ys
   pass_asks =
       let z = level bound grid i level_short in
       let some = filled_some direction lanes xs (omega (arith, grid.power, pow_pos (passes n))) pruned in
-      rw (call.blocks_are, call.unit_is, call.bits_are, call.bound_is) (
+      rw (call.unit_is, call.bits_are, call.bound_is) (
         (
-          before.same_length ∙ size ∙ z.whole,
+          record { blocks = 2 ^ i; whole = before.same_length ∙ size ∙ z.whole },
           sized z rows (omega (arith, call.rows_are, some, z.some)) (omega (arith, call.rows_are)),
         ),
         before.most,

@@ -93,7 +93,8 @@ fn butterflies<B: Butterfly>(
     requires pairs_at_most { PairsAtMost residues.bound (Run at lanes) half words.old }
     ensures { Paired (λ _. StepMakes B.step residues.bits residues.bound t) (Run at lanes) half words.old words.new }
 {
-    for p in at..at + lanes {
+    for k in 0..lanes {
+        let p = at + k;
         let q = half + p;
         let pair = B::pair(words[p], words[q], t, residues);
         words[p] = pair.low;

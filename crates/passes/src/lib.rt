@@ -59,23 +59,25 @@ fn unit_of(unit: u32, level: u32) -> u32
 
 // One pass. Its blocks: all words, in blocks of two halves of `half` words. Its pairs: in each block, row r of the first half and row r of the
 // second, for the first `rows` rows; the others are left as they are. Its powers: 2^(unit r) for row r, where 2^unit is the root of the pass.
+// A `while`: with a `for` over the number of the block, as it was tried, the compiler asks once for all blocks whether two rows overlap, cannot
+// tell, and takes the words of row 0 one by one, which is a tenth more instructions.
 fn pass<B: Butterfly>(
     words: &mut [u64],
-    blocks: usize,
     rows: usize,
     half: usize,
     lanes: usize,
     unit: u32,
     residues: Residues,
 )
-    requires whole { (length words.old ≡ blocks * (2 * half)) × StageSizes (2 * half) rows lanes half unit residues.bits }
+    requires whole_blocks { WholeBlocks (length words.old) half × StageSizes (2 * half) rows lanes half unit residues.bits }
     requires at_most { AtMost residues.bound words.old }
     ensures { Passed B.step residues.bits residues.bound unit rows lanes half words.old words.new }
 {
-    for block in 0..blocks {
-        let both = 2 * half;
-        let at = block * both;
-        stage::<B>(&mut words[at..at + both], rows, half, lanes, unit, residues);
+    let mut at = 0;
+    while at < words.len() {
+        let end = at + 2 * half;
+        stage::<B>(&mut words[at..end], rows, half, lanes, unit, residues);
+        at = end;
     }
 }
 
@@ -102,7 +104,6 @@ pub fn transform_lanes<T: Transform>(
         let rows = filled.min(half);
         pass::<T>(
             words,
-            1 << level,
             rows,
             half * lanes,
             lanes,

@@ -1,10 +1,9 @@
 -- A turn computes the numbers of its pass as Call says, and LanePasses takes the state over the pass, by the law that ties the butterflies to the direction.
 use mathlib.Core.Path.{◌≡◌, refl, ap, ◌∙◌}
-use Prim.Native.Nat.{ℕ, ◌+◌, ◌*◌, ◌/◌, ◌%◌, ◌^◌, ◌<◌}
+use Prim.Native.Nat.{ℕ, ◌+◌, ◌*◌, ◌/◌, ◌^◌, ◌<◌}
 use native.Mathlib.Nat.{two-pow-succ, div-one}
 use native.Mathlib.Numerals.{add-one}
 use native.Mathlib.Omega.{arith}
-use Rattle.fermat.specs.FieldSizeLaws.{one_shl}
 use Rattle.passes.specs.Passes.{passes}
 use Rattle.passes.proofs.Levels.{level_lt, quotient, unit_most, room_left}
 use Rattle.passes.proofs.LanePasses.{after_none, after_all, Call, pass_asks, after_more}
@@ -32,11 +31,10 @@ unit_of-requires g c =
 module _ (g : Over) (c : After-unit_of g) where
   call : let a = c.args in let now = c.loop-p.residues in
       Call g.T.Transform.direction a.residues.bits a.n a.filled a.unit a.residues.bound c.loop-p.p g.T.Butterfly.step c.level-level.result
-      (1 * 2 ^ c.level-level.result % 2 ^ 64) c.min-rows.result c.unit_of.result now.bits now.bound
+      c.min-rows.result c.unit_of.result now.bits now.bound
   call = record {
     step_is = g.met.T.Transform.steps;
     level_is = c.level-level.ensures;
-    blocks_are = one_shl c.level-level.result (omega (arith, level_lt g.T.Transform.direction c.loop-p.p (passes c.args.n) c.loop-p-test.true, c.requires.grid.short));
     rows_are = c.min-rows.ensures;
     unit_is = c.unit_of.ensures;
     bits_are = c.loop-p.invariant.0;
@@ -47,7 +45,7 @@ pub pass-requires : goal.pass-requires
 pass-requires g c =
     let turn = (goal.at.pass-requires g c).After-unit_of in
     let asks = pass_asks c.args.residues.bounded c.requires.grid c.requires.pruned c.loop-p-test.true (call g turn) refl c.loop-p.invariant.2 in
-    record { whole = asks.0; at_most = asks.1 }
+    record { whole_blocks = asks.0; at_most = asks.1 }
 
 pub doubled-residues-requires : goal.doubled-residues-requires
 doubled-residues-requires g c =
