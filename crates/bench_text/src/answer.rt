@@ -26,7 +26,7 @@ fn read_body(text: &[u8], map: &mut [i16], kernel: &mut [i16]) -> bool
     words::no_more(after_kernel)
 }
 
-// Whether the field is 4 and the counts of map values, weights and outputs fit the buffers.
+// Whether the field is 4 and the counts of map values, weights and outputs fit the buffers. The field's number is compared, as in `small`.
 fn is_small(layer: Layer) -> bool
     requires { Planned layer }
     ensures { result ≡ small layer }

@@ -1,4 +1,4 @@
-// Part after part, by either method.
+// Part after part, by either method. A match over an enum of two: a caller picks the method for each call.
 ghost use Rattle.std.specs.Prelude.{◌≡◌, ◌≤◌, length};
 ghost use Rattle.algebra.specs.Places.{Changed};
 ghost use Rattle.checks.specs.Callable.{Callable};

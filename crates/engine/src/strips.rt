@@ -1,4 +1,4 @@
-// Strip after strip.
+// Strip after strip. It stands beside `finish_tiles`: a strip is lent a table of powers, and a tile may keep the kernel of the tile before.
 ghost use Rattle.std.specs.Prelude.{◌≡◌, ◌≤◌, length};
 ghost use Rattle.algebra.specs.Places.{Changed};
 ghost use Rattle.layer.specs.Strip.{strip_words, strip_total};

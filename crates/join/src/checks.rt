@@ -17,6 +17,7 @@ use layer::sizes;
 fn check_filter(layer: Layer, weights: usize) -> Result<(), Refusal>
     ensures { code_of result ≡ first_broken (filter_rules layer weights) }
 {
+    // The kind's number, as the rule has it: any other is refused.
     require(Refusal::Filter, layer.kind == 0)?;
     require(Refusal::Filter, layer.stride == 1)?;
     require(Refusal::Filter, layer.padding == 0)?;

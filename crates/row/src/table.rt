@@ -28,7 +28,7 @@ const POWERS: [u64; 256] = [
 // The table as a value: a constant that is indexed where it stands would be made anew at every use.
 #[derive(Drop)]
 pub struct PowerTable {
-    powers: [u64; 256],
+    pub powers: [u64; 256],
     ghost root_powers: { RootPowers powers },
 }
 

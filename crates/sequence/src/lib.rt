@@ -33,6 +33,7 @@ pub fn sequence(
         last: last.len(),
     };
     let answer = check_sequence(count, steps, map, kernels, room);
+    // The number is what C is told (`SequenceReported`).
     if answer.code != 0 {
         return answer;
     }
