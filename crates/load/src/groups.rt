@@ -27,14 +27,15 @@ fn size_sum(run: &[i16]) -> u64
     u64::from(total)
 }
 
-// The sum of the sizes of a group's weights in the row that begins at `from`.
+// The sum of the sizes of a group's weights in the row that begins at `from`. The remainders change nothing, here and below; they tell the compiler that
+// no step leads beyond the largest number, which it would ask at each.
 fn row_sum(plane: &[i16], from: usize, side: usize, group: Group) -> u64
     requires { IsGroup group × (side ≤ 11) × (from + side ≤ length plane.now) × (length plane.now ≤ 121) }
     ensures value { result ≡ apart group.step group.column side (λ b. nat_abs (get_or plane.now (from + b) (pos 0))) }
     ensures upper_bound { result ≤ 32768 * side }
 {
     let mut total: u64 = 0;
-    for b in (group.column..side).step_by(group.step) {
+    for b in (group.column..side % 16).step_by(group.step % 8) {
         total += u64::from(plane[from + b].unsigned_abs());
     }
     total
@@ -46,7 +47,7 @@ fn rows_sum(plane: &[i16], side: usize, group: Group) -> u64
     ensures { (result ≡ group_sum side plane.now group) × (result ≤ 121 * 32768) }
 {
     let mut total: u64 = 0;
-    for a in (group.row..side).step_by(group.step) {
+    for a in (group.row..side % 16).step_by(group.step % 8) {
         total += row_sum(plane, a * side, side, group);
     }
     total

@@ -1,5 +1,6 @@
 use mathlib.Core.Path.{◌≡◌, ap, ◌∙◌}
-use Prim.Native.Nat.{◌+◌, ◌*◌, ◌≤◌}
+use Prim.Native.Nat.{◌+◌, ◌*◌, ◌%◌, ◌≤◌}
+use native.Mathlib.Nat.{mod-eq_of_lt}
 use native.Mathlib.Omega.{arith}
 use borrow.Author.Rules.{sfits_of}
 use lib.IntN.{ℤ, pos, nat_abs}
@@ -9,7 +10,11 @@ use mir.Syntax.{w16}
 use mir.Val.{to_z, of_z}
 use Rattle.load.proofs.Apart.{SummedTo, summed_none, summed_next, summed_all}
 use Rattle.load.proofs.groups.row_sum.Goals as goal
-use Rattle.load.proofs.groups.row_sum.Goals.{After-from-total}
+use Rattle.load.proofs.groups.row_sum.Goals.{After-from-total, Start}
+
+-- the remainder changes nothing
+step_is : (c : Start) → c.args.group.step % 8 ≡ c.args.group.step
+step_is c = mod-eq_of_lt (omega (arith, c.requires.0.step_most))
 
 pub loop-b-init : goal.loop-b-init
 loop-b-init c = (summed_none c.requires.0.column_below, omega arith, omega arith)
@@ -26,7 +31,7 @@ next c =
     (summed_next (omega arith) c.loop-b.invariant.0 size, omega (arith, c.requires.0.column_below), omega arith)
 
 pub loop-b-preserved : goal.loop-b-preserved
-loop-b-preserved c = next (goal.at.loop-b-preserved c).After-from-total
+loop-b-preserved c = rw (step_is (goal.at.loop-b-preserved c).Start) (next (goal.at.loop-b-preserved c).After-from-total)
 
 -- no column of the group is left: where it begins at the side, and where the next one is not below the side
 pub returns : goal.returns

@@ -1,5 +1,6 @@
-use Prim.Native.Nat.{◌+◌, ◌*◌, ◌≤◌}
-use native.Mathlib.Nat.{mul-le-mul}
+use mathlib.Core.Path.{◌≡◌}
+use Prim.Native.Nat.{◌+◌, ◌*◌, ◌%◌, ◌≤◌}
+use native.Mathlib.Nat.{mod-eq_of_lt, mul-le-mul}
 use native.Mathlib.Omega.{arith}
 use lib.IntN.{pos, nat_abs}
 use lib.ListN.{length, get_or}
@@ -8,6 +9,10 @@ use Rattle.load.specs.Weights.{apart, group_sum}
 use Rattle.load.proofs.Apart.{SummedTo, summed_none, summed_next, summed_all}
 use Rattle.load.proofs.groups.rows_sum.Goals as goal
 use Rattle.load.proofs.groups.rows_sum.Goals.{In-loop-a, After-row_sum-total, Start}
+
+-- the remainder changes nothing
+step_is : (c : Start) → c.args.group.step % 8 ≡ c.args.group.step
+step_is c = mod-eq_of_lt (omega (arith, c.requires.0.step_most))
 
 pub loop-a-init : goal.loop-a-init
 loop-a-init c = (summed_none c.requires.0.row_below, omega arith, omega arith)
@@ -32,7 +37,7 @@ next c =
     (summed_next (omega arith) c.loop-a.invariant.0 c.row_sum-total.ensures.value, omega (arith, g.row_below), omega arith)
 
 pub loop-a-preserved : goal.loop-a-preserved
-loop-a-preserved c = next (goal.at.loop-a-preserved c).After-row_sum-total
+loop-a-preserved c = rw (step_is (goal.at.loop-a-preserved c).Start) (next (goal.at.loop-a-preserved c).After-row_sum-total)
 
 -- no row of the group is left: where it begins at the side, and where the next one is not below the side
 pub returns : goal.returns
