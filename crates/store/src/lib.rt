@@ -25,14 +25,15 @@ pub struct Held {
     pub word: usize, // the row or the column of the part's words that the first one's are in
 }
 
-// Stores a row: each place has a word, `STEP` words after that of the place before. The step is a constant, so that the loop for words that stand
-// side by side is compiled to many words at a time.
-pub fn store_row<const STEP: usize>(output: &mut [i32], words: &[u64], offset: u64)
-    requires { (offset ≤ 2147483648) × RowStorable offset 0 STEP (length output.old) words.now }
-    ensures { RowStored offset 0 0 STEP (length output.old) words.now output.old output.new }
+// Stores a row: each place has a word, `step` words after that of the place before. It is compiled into its callers: where the step there is a
+// constant, the loop for words that stand side by side is compiled to many words at a time.
+#[inline(always)]
+pub fn store_row(output: &mut [i32], words: &[u64], step: usize, offset: u64)
+    requires { (offset ≤ 2147483648) × RowStorable offset 0 step (length output.old) words.now }
+    ensures { RowStored offset 0 0 step (length output.old) words.now output.old output.new }
 {
     for (i, place) in output.iter_mut().enumerate() {
-        *place = value_of(words[i * STEP], offset);
+        *place = value_of(words[i * step], offset);
     }
 }
 
@@ -89,7 +90,7 @@ fn store_rows_apart<const STEP: usize>(
         let at = (rows.first + r) * layer.columns + columns.first;
         let end = at + columns.count;
         let from = (rows.word + r * STEP) * n + columns.word;
-        store_row::<STEP>(&mut output[at..end], &words[from..], offset);
+        store_row(&mut output[at..end], &words[from..], STEP, offset);
     }
 }
 

@@ -21,10 +21,10 @@ fn store_columns(output: &mut [i32], words: &[u64], layer: Layer)
 {
     let offset = offset_of(layer.field);
     match grid_step(layer) {
-        1 => store_row::<1>(output, words, offset),
-        2 => store_row::<2>(output, words, offset),
-        3 => store_row::<3>(output, words, offset),
-        _ => store_row::<4>(output, words, offset),
+        1 => store_row(output, words, 1, offset),
+        2 => store_row(output, words, 2, offset),
+        3 => store_row(output, words, 3, offset),
+        _ => store_row(output, words, 4, offset),
     }
 }
 
