@@ -17,10 +17,10 @@ use layer::sizes;
 fn read_body(text: &[u8], map: &mut [i16], kernel: &mut [i16]) -> bool
     ensures { BodyRead (words_of false text.now) (length map.old) (length kernel.old) map.new kernel.new result }
 {
-    let Some(after_map) = words::read_numbers(text, false, map) else {
+    let Ok(after_map) = words::read_numbers(text, false, map) else {
         return false;
     };
-    let Some(after_kernel) = words::read_numbers(after_map, false, kernel) else {
+    let Ok(after_kernel) = words::read_numbers(after_map, false, kernel) else {
         return false;
     };
     words::no_more(after_kernel)
@@ -115,7 +115,7 @@ pub fn answer(lines: &mut [u8; 16384], input: &[u8]) -> usize
     let long = input.len() > 16384;
     let text = &input[..input.len().min(16384)];
     let mut numbers = [0; 16];
-    let Some(body) = words::read_numbers(text, long, &mut numbers[..14]) else {
+    let Ok(body) = words::read_numbers(text, long, &mut numbers[..14]) else {
         return lines::put_unreadable(lines, 0);
     };
     let layer = layer_of(&numbers);

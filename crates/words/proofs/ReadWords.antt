@@ -6,7 +6,7 @@ use borrow.Author.Tests.{le-leb, lt-leb}
 use lib.Dec.{leb}
 use lib.Seq.{append_snoc, take-append_seam, drop-append_seam, take-append-add, take-length}
 use Rattle.words.specs.Words.{words_of, every_word}
-use Rattle.words.specs.Reading.{NextWord, first_pass, WordsRead}
+use Rattle.words.specs.Reading.{NextWord, first_pass, WordsRead, WordsRefused}
 
 -- ---- lists of words
 
@@ -70,15 +70,22 @@ module _ {A : Type 0} (test : List ℕ → Bool) (value : List ℕ → A) (cut :
       let full : i ≡ length values = e ∙ sym l in
       rw (p.words, ← c, take-append_seam p.done (words_of cut rest), ← p.held, full) (sym (take-length values))
 
+  -- the words that were read pass, and no more of them do
+  refused : {values : List A} {rest : List ℕ} {i : ℕ} → Passed values rest i → (count : ℕ) → i < count
+      → ((n : ℕ) → i < n → first_pass test n (words_of cut text) ≡ false) → WordsRefused test cut text count rest
+  refused {values} {rest} {i} p count l fails =
+      record { fails = fails count l; passed = i; fewer = l; read = passed_all p i refl; stops = fails (i + 1) (omega arith) }
+
   module _ {values : List A} {rest : List ℕ} {i : ℕ} (p : Passed values rest i) (count : ℕ) (l : i < count) where
     -- no word is left
-    pub no_word : words_of cut rest ≡ [] → first_pass test count (words_of cut text) ≡ false
-    no_word e = rw (p.words, e) (too_few test p.done count (omega (arith, p.same_length)))
+    pub no_word : words_of cut rest ≡ [] → WordsRefused test cut text count rest
+    no_word e = refused p count l (λ n m. rw (p.words, e) (too_few test p.done n (omega (arith, p.same_length))))
 
     module _ {word after : List ℕ} (n : NextWord cut rest word after) where
       -- the next word does not pass
-      pub stopped : test word ≡ false → first_pass test count (words_of cut text) ≡ false
-      stopped e = rw (p.words, n.one) (one_fails test p.done word (words_of cut after) count (omega (arith, p.same_length)) e)
+      pub stopped : test word ≡ false → WordsRefused test cut text count rest
+      stopped e =
+          refused p count l (λ k m. rw (p.words, n.one) (one_fails test p.done word (words_of cut after) k (omega (arith, p.same_length)) e))
 
       -- the next word passes
       pub passed_next : test word ≡ true → length values ≡ count → (x : A) → x ≡ value word → Passed (set values i x) after (i + 1)

@@ -1,5 +1,5 @@
 -- What the reader promises of a text: its next word, and the words that it begins with.
-use Rattle.std.specs.Prelude.{◌≡◌, Bool, true, ◌&&◌, List, ◌∷◌, ◌++◌, ℕ, ◌+◌, ◌<◌, leb, eqb, ℤ, length, take, drop, Option}
+use Rattle.std.specs.Prelude.{◌≡◌, Bool, true, false, ◌&&◌, List, ◌∷◌, ◌++◌, ℕ, ◌+◌, ◌<◌, leb, eqb, ℤ, length, take, drop, Option}
 use Rattle.std.specs.Option.{SomeIff}
 use Rattle.words.specs.Words.{words_of, every_word, whole_value, is_figure, is_value, signed_value, values_of}
 
@@ -28,6 +28,15 @@ pub record WordsRead (test : List ℕ → Bool) (cut : Bool) (text : List ℕ) (
   pub before : List ℕ
   pub joined : text ≡ before ++ rest
   pub after : words_of cut rest ≡ drop count (words_of cut text)
+
+-- the first `count` words of a text do not pass a test. Fewer words do, `rest` is the text after them, and one word more does not pass, or is
+-- not there
+pub record WordsRefused (test : List ℕ → Bool) (cut : Bool) (text : List ℕ) (count : ℕ) (rest : List ℕ) : Type 0 where
+  pub fails : first_pass test count (words_of cut text) ≡ false
+  pub passed : ℕ
+  pub fewer : passed < count
+  pub read : WordsRead test cut text passed rest
+  pub stops : first_pass test (passed + 1) (words_of cut text) ≡ false
 
 -- the words of the body are the values of map and kernel, of those lengths
 pub record BodyRead (body : List (List ℕ)) (values weights : ℕ) (map kernel : List ℤ) (r : Bool) : Type 0 where

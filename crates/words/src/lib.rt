@@ -1,10 +1,10 @@
 // Reading: the words of a text, one after the other, and the numbers that they are. A text may be cut off: see `words_from`.
 #![tactic(auto)]
 
-ghost use Rattle.std.specs.Prelude.{◌≡◌, ◌≤◌, true, false, not, ℕ, eqb, [], length, map, take, MatchOption, OnSome};
+ghost use Rattle.std.specs.Prelude.{◌≡◌, ◌≤◌, true, false, not, ℕ, eqb, [], length, map, take, MatchOption, MatchResult, OnOk};
 ghost use Rattle.std.specs.List.{position_or_len};
 ghost use Rattle.words.specs.Words.{is_separator, words_of};
-ghost use Rattle.words.specs.Reading.{NextWord, first_pass, WordsRead};
+ghost use Rattle.words.specs.Reading.{NextWord, WordsRead, WordsRefused};
 
 use crate::number::Number;
 
@@ -59,19 +59,24 @@ fn next_word(text: &[u8], cut: bool) -> Option<Word<'_>>
     Some(Word { bytes, rest })
 }
 
-// As many numbers as there is room for, and the text after them.
-pub fn read_numbers<'a, T: Number>(text: &'a [u8], cut: bool, numbers: &mut [T]) -> Option<&'a [u8]>
-    ensures words_read { MatchOption result (first_pass T.is_number (length numbers.old) (words_of cut text.now) ≡ false)
-        (λ rest. WordsRead T.is_number cut text.now (length numbers.old) rest.now) }
-    ensures numbers_after { OnSome result (numbers.new ≡ map T.value_of (take (length numbers.old) (words_of cut text.now))) }
+// As many numbers as there is room for: `Ok` with the text after them. Where the next word is no such number, or no word is left, `Err` with the text
+// that was still to be read, from that word on.
+pub fn read_numbers<'a, T: Number>(
+    text: &'a [u8],
+    cut: bool,
+    numbers: &mut [T],
+) -> Result<&'a [u8], &'a [u8]>
+    ensures words_read { MatchResult result (λ rest. WordsRead T.is_number cut text.now (length numbers.old) rest.now)
+        (λ rest. WordsRefused T.is_number cut text.now (length numbers.old) rest.now) }
+    ensures numbers_after { OnOk result (numbers.new ≡ map T.value_of (take (length numbers.old) (words_of cut text.now))) }
 {
     let mut rest = text;
     for number in numbers.iter_mut() {
-        let word = next_word(rest, cut)?;
-        *number = T::from_word(word.bytes)?;
+        let word = next_word(rest, cut).ok_or(rest)?;
+        *number = T::from_word(word.bytes).ok_or(rest)?;
         rest = word.rest;
     }
-    Some(rest)
+    Ok(rest)
 }
 
 // Whether no word is left.

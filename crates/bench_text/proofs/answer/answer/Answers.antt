@@ -32,21 +32,21 @@ module _ (c : After-layer_of-layer) where
   same = text_is (goal.at.After-layer_of-layer c).After-min
 
   header_there : header_reads (input_words input) ≡ true
-  header_there = rw same at c.in-Some.ensures.words_read.passes
+  header_there = rw same at c.in-Ok.ensures.words_read.passes
 
   -- its layer
   layer_is : c.layer_of-layer.result ≡ header_layer (input_words input)
   layer_is =
-      let figures = rw same at c.in-Some.ensures.numbers_after ∙ figures_map _ in
+      let figures = rw same at c.in-Ok.ensures.numbers_after ∙ figures_map _ in
       c.layer_of-layer.ensures ∙ ap (λ (ns : List ℕ). layer_of (ns ++ (0 ∷ 0 ∷ []))) figures
 
   -- the words after the header, of an input that is not long
-  body_is : is_long input ≡ false → words_of false c.in-Some.body.now ≡ drop 14 (input_words input)
-  body_is short = ap (λ (long : Bool). words_of long c.in-Some.body.now) (sym short) ∙ (rw same at c.in-Some.ensures.words_read.after)
+  body_is : is_long input ≡ false → words_of false c.in-Ok.body.now ≡ drop 14 (input_words input)
+  body_is short = ap (λ (long : Bool). words_of long c.in-Ok.body.now) (sym short) ∙ (rw same at c.in-Ok.ensures.words_read.after)
 
 pub returns-in_default : goal.returns-in_default
 returns-in_default c =
-    let unread = rw (text_is (goal.at.returns-in_default c).After-min) at c.in_default.ensures.words_read in
+    let unread = rw (text_is (goal.at.returns-in_default c).After-min) at c.in_default.ensures.words_read.fails in
     let put = c.put_unreadable.ensures in
     rw (header_unread c.args.input.now unread) (append-within put, put.shown, put.after)
 
