@@ -26,7 +26,7 @@ const POWERS: [u64; 256] = [
 ];
 
 // The table as a value: a constant that is indexed where it stands would be made anew at every use.
-#[derive(Drop)]
+#[derive(Clone, Copy)]
 pub struct PowerTable {
     pub powers: [u64; 256],
     ghost root_powers: { RootPowers powers },
