@@ -60,7 +60,7 @@ fn next_word(text: &[u8], cut: bool) -> Option<Word<'_>>
 }
 
 // As many numbers as there is room for: `Ok` with the text after them. Where the next word is no such number, or no word is left, `Err` with the text
-// that was still to be read, from that word on.
+// after those that were read.
 pub fn read_numbers<'a, T: Number>(
     text: &'a [u8],
     cut: bool,
